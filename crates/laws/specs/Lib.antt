@@ -1,0 +1,4 @@
+-- Words that the definitions of every layer share.
+pub mod Integers
+pub mod Lists
+pub mod Refusals
