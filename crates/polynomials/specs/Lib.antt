@@ -1,0 +1,2 @@
+-- 01, "Ring arithmetic".
+pub mod Product

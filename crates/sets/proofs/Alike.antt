@@ -1,0 +1,68 @@
+-- What holds of every set alike: the few laws of d, p, kappa and K that everything else is proved from.
+use mathlib.Core.Path.{_≡_, refl}
+use Prim.Native.Nat.{ℕ, _+_, _*_, _/_, _^_, _<_, _≤_}
+use lib.Dec.{lit<, lit≤}
+use Rattle.sets.specs.declared.Set.{Set}
+use Rattle.sets.specs.declared.Set.the-variants.{I, II, III, IV}
+use Rattle.sets.specs.declared.Asked.{Asked}
+use Rattle.sets.specs.declared.Asked.the-variants.{Known}
+use Rattle.sets.specs.Numbers.{twiceModulus, maskLimit, listLimit, kappaOf, dOf, pOf, largestOf, keyLimitOf, totalOf, numberOf, namedOf, askedOf}
+
+-- a statement about a set, from its four cases
+each : (P : Set → Type 0) → P I → P II → P III → P IV → (s : Set) → P s
+each P a b c d I = a
+each P a b c d II = b
+each P a b c d III = c
+each P a b c d IV = d
+
+pub p-is-quotient : (s : Set) → pOf s ≡ twiceModulus / 2 ^ dOf s
+p-is-quotient = each _ refl refl refl refl
+
+-- p 2^d is 2q - 2, and not 2q
+pub spread : (s : Set) → pOf s * 2 ^ dOf s + 2 ≡ twiceModulus
+spread = each _ refl refl refl refl
+
+pub p-even : (s : Set) → pOf s ≡ pOf s / 2 + pOf s / 2
+p-even = each _ refl refl refl refl
+
+pub p-positive : (s : Set) → 0 < pOf s
+p-positive = each _ (lit< tt) (lit< tt) (lit< tt) (lit< tt)
+
+-- a number modulo p, and a centred one, fit a byte
+pub p-small : (s : Set) → pOf s ≤ 96
+p-small = each _ (lit≤ tt) (lit≤ tt) (lit≤ tt) (lit≤ tt)
+
+pub d-positive : (s : Set) → 8 ≤ dOf s
+d-positive = each _ (lit≤ tt) (lit≤ tt) (lit≤ tt) (lit≤ tt)
+
+pub d-small : (s : Set) → dOf s ≤ 10
+d-small = each _ (lit≤ tt) (lit≤ tt) (lit≤ tt) (lit≤ tt)
+
+pub kappa-within : (s : Set) → kappaOf s ≤ listLimit
+kappa-within = each _ (lit≤ tt) (lit≤ tt) (lit≤ tt) (lit≤ tt)
+
+pub largest-small : (s : Set) → largestOf s < 2 ^ 15
+largest-small = each _ (lit< tt) (lit< tt) (lit< tt) (lit< tt)
+
+pub key-limit-small : (s : Set) → keyLimitOf s ≤ 1784
+key-limit-small = each _ (lit≤ tt) (lit≤ tt) (lit≤ tt) (lit≤ tt)
+
+-- the first trial's number has no place above 30
+pub first-trial : (s : Set) → kappaOf s * keyLimitOf s < 2 ^ 31
+first-trial = each _ (lit< tt) (lit< tt) (lit< tt) (lit< tt)
+
+-- nor has the second's: a coefficient of z is at most a mask's and kappa columns' of at most 5, and the absolute values of v sum to at most kappa K
+pub second-trial : (s : Set) → 2 * ((maskLimit + 5 * kappaOf s) * (kappaOf s * keyLimitOf s)) < 2 ^ 31
+second-trial = each _ (lit< tt) (lit< tt) (lit< tt) (lit< tt)
+
+pub total-small : (s : Set) → totalOf s < 2 ^ 16
+total-small = each _ (lit< tt) (lit< tt) (lit< tt) (lit< tt)
+
+-- a set's number stands for the set, in a record and on a call
+pub named-back : (s : Set) → namedOf (numberOf s) ≡ Known s
+unfolding namedOf
+named-back = each _ refl refl refl refl
+
+pub asked-back : (s : Set) → askedOf (numberOf s) ≡ Known s
+unfolding askedOf namedOf
+asked-back = each _ refl refl refl refl

@@ -1,0 +1,2 @@
+-- 01, "Parameters".
+pub mod Numbers

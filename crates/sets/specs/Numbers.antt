@@ -1,0 +1,108 @@
+-- The numbers of the sets, as the table of 01, "Parameters", has them.
+use mathlib.Core.Bool.{cond}
+use Prim.Native.Nat.{ℕ, _+_, _*_}
+use lib.Dec.{eqb}
+use Rattle.sets.specs.declared.Set.{Set}
+use Rattle.sets.specs.declared.Set.the-variants.{I, II, III, IV}
+use Rattle.sets.specs.declared.Asked.{Asked}
+use Rattle.sets.specs.declared.Asked.the-variants.{Known, Unknown}
+
+-- ---- alike for all sets
+
+-- n: the coefficients of a polynomial
+abbrev pub dimension : ℕ
+dimension = 512
+
+-- q
+abbrev pub modulus : ℕ
+modulus = 12289
+
+-- 2q
+abbrev pub twiceModulus : ℕ
+twiceModulus = 24578
+
+-- twice zeta modulo 2q, where zeta = 18433 inverts q - 2 modulo 2q
+abbrev pub factor : ℕ
+factor = 12288
+
+-- the largest coefficient of a mask, either way
+abbrev pub maskLimit : ℕ
+maskLimit = 4096
+
+-- the binary places that a trial visits, and the thresholds
+abbrev pub places : ℕ
+places = 31
+
+-- the entries of a reader's list buffer
+abbrev pub listLimit : ℕ
+listLimit = 39
+
+-- ---- of each set
+
+-- kappa: the places of a challenge list
+abbrev pub kappaOf : Set → ℕ
+kappaOf I = 23
+kappaOf II = 23
+kappaOf III = 30
+kappaOf IV = 39
+
+-- d: the dropped binary digits
+abbrev pub dOf : Set → ℕ
+dOf I = 10
+dOf II = 10
+dOf III = 9
+dOf IV = 8
+
+-- p: 2q divided by 2^d, rounded down
+abbrev pub pOf : Set → ℕ
+pOf I = 24
+pOf II = 24
+pOf III = 48
+pOf IV = 96
+
+-- "largest"
+abbrev pub largestOf : Set → ℕ
+largestOf I = 2100
+largestOf II = 1563
+largestOf III = 1760
+largestOf IV = 1613
+
+-- B2 squared
+abbrev pub boundSquaredOf : Set → ℕ
+boundSquaredOf I = 165688384
+boundSquaredOf II = 122633476
+boundSquaredOf III = 104162436
+boundSquaredOf IV = 98029801
+
+-- K: the largest squared length of a key
+abbrev pub keyLimitOf : Set → ℕ
+keyLimitOf I = 775
+keyLimitOf II = 775
+keyLimitOf III = 1409
+keyLimitOf IV = 1784
+
+-- the bytes of a record (01, "The record")
+abbrev pub totalOf : Set → ℕ
+totalOf s = 1560 + 2 * kappaOf s
+
+-- ---- numbers for sets
+
+-- No.
+abbrev pub numberOf : Set → ℕ
+numberOf I = 1
+numberOf II = 2
+numberOf III = 3
+numberOf IV = 4
+
+-- the set of that number
+unfoldable pub namedOf : ℕ → Asked
+namedOf x =
+    cond (eqb x 1) (Known I)
+    (cond (eqb x 2) (Known II)
+    (cond (eqb x 3) (Known III)
+    (cond (eqb x 4) (Known IV)
+    Unknown)))
+
+-- the set that a number stands for on a call: 0 stands for set 1
+unfoldable pub askedOf : ℕ → Asked
+askedOf x = cond (eqb x 0) (Known I) (namedOf x)
