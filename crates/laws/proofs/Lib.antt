@@ -1,1 +1,11 @@
--- Laws.
+-- What the proofs of every layer cite. Whole numbers: `Products`, `Solver`, `Bounds`, `Linear`, `Congruence`, `Machine`;
+-- vectors: `Entries`, `Loops`; refusals in their order: `Chain`.
+pub mod Products
+pub mod Solver
+pub mod Bounds
+pub mod Linear
+pub mod Congruence
+pub mod Machine
+pub mod Chain
+pub mod Entries
+pub mod Loops

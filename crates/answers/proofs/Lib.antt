@@ -1,0 +1,2 @@
+-- What the calls' proofs cite: `search calls` closes a return.
+pub mod Calls

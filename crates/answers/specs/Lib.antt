@@ -1,0 +1,2 @@
+-- 01, "Numbers that come back".
+pub mod Outcomes

@@ -1,0 +1,58 @@
+-- The paper's number and place for each outcome, and how a call's refusals go on from one to the next.
+use mathlib.Core.Bool.{Bool}
+use Prim.Native.Nat.{ℕ}
+use lib.Dec.{eqb}
+use Rattle.laws.specs.Refusals.{must}
+use Rattle.sets.specs.declared.Set.{Set}
+use Rattle.sets.specs.declared.Asked.{Asked}
+use Rattle.sets.specs.declared.Asked.the-variants.{Known, Unknown}
+use Rattle.answers.specs.declared.Outcome.{Outcome}
+use Rattle.answers.specs.declared.Outcome.the-variants.{Done, UnknownSet, WrongLength, CoefficientOutside, MaskOutside, ImproperList, RelationBroken, KeyTooLong, Rejected, WordMissing, EntryBeyond, SumAbove, ListsDiffer, HeaderMalformed, OutputShort}
+
+-- No.
+abbrev pub numberOf : Outcome → ℕ
+numberOf Done = 0
+numberOf UnknownSet = 1
+numberOf WrongLength = 2
+numberOf CoefficientOutside = 3
+numberOf MaskOutside = 4
+numberOf ImproperList = 5
+numberOf RelationBroken = 6
+numberOf KeyTooLong = 7
+numberOf Rejected = 8
+numberOf WordMissing = 9
+numberOf (EntryBeyond place) = 10
+numberOf SumAbove = 11
+numberOf ListsDiffer = 12
+numberOf (HeaderMalformed place) = 13
+numberOf OutputShort = 14
+
+-- places are 0 except with 10 and 13
+abbrev pub placeOf : Outcome → ℕ
+placeOf Done = 0
+placeOf UnknownSet = 0
+placeOf WrongLength = 0
+placeOf CoefficientOutside = 0
+placeOf MaskOutside = 0
+placeOf ImproperList = 0
+placeOf RelationBroken = 0
+placeOf KeyTooLong = 0
+placeOf Rejected = 0
+placeOf WordMissing = 0
+placeOf (EntryBeyond place) = place
+placeOf SumAbove = 0
+placeOf ListsDiffer = 0
+placeOf (HeaderMalformed place) = place
+placeOf OutputShort = 0
+
+abbrev pub isDone : Outcome → Bool
+isDone o = eqb (numberOf o) 0
+
+-- an outcome that refuses is answered; where it is done, what follows
+abbrev pub unless {ℓ} : {A : Type ℓ} → Outcome → (Outcome → A) → A → A
+unless o answer next = must (isDone o) (answer o) next
+
+-- what follows for the set that was asked for, where there is one
+abbrev pub forSet {ℓ} : {A : Type ℓ} → Asked → A → (Set → A) → A
+forSet Unknown refusal next = refusal
+forSet (Known s) refusal next = next s

@@ -1,0 +1,73 @@
+// The answers of all calls, with the paper's number and place for each (01, "Numbers that come back").
+ghost use mathlib.Core.Path.{_≡_};
+ghost use Rattle.answers.specs.Outcomes.{numberOf, placeOf, isDone};
+
+pub enum Outcome {
+    Done,
+    UnknownSet,
+    WrongLength,
+    CoefficientOutside,
+    MaskOutside,
+    ImproperList,
+    RelationBroken,
+    KeyTooLong,
+    Rejected,
+    WordMissing,
+    EntryBeyond(u32),
+    SumAbove,
+    ListsDiffer,
+    HeaderMalformed(u32),
+    OutputShort,
+}
+
+impl Outcome {
+    pub fn number(self) -> u32
+        ensures { λ r. ⌜ r ≡ numberOf self ⌝ }
+    {
+        match self {
+            Outcome::Done => 0,
+            Outcome::UnknownSet => 1,
+            Outcome::WrongLength => 2,
+            Outcome::CoefficientOutside => 3,
+            Outcome::MaskOutside => 4,
+            Outcome::ImproperList => 5,
+            Outcome::RelationBroken => 6,
+            Outcome::KeyTooLong => 7,
+            Outcome::Rejected => 8,
+            Outcome::WordMissing => 9,
+            Outcome::EntryBeyond(_) => 10,
+            Outcome::SumAbove => 11,
+            Outcome::ListsDiffer => 12,
+            Outcome::HeaderMalformed(_) => 13,
+            Outcome::OutputShort => 14,
+        }
+    }
+
+    pub fn place(self) -> u32
+        ensures { λ r. ⌜ r ≡ placeOf self ⌝ }
+    {
+        match self {
+            Outcome::EntryBeyond(place) => place,
+            Outcome::HeaderMalformed(place) => place,
+            Outcome::Done => 0,
+            Outcome::UnknownSet => 0,
+            Outcome::WrongLength => 0,
+            Outcome::CoefficientOutside => 0,
+            Outcome::MaskOutside => 0,
+            Outcome::ImproperList => 0,
+            Outcome::RelationBroken => 0,
+            Outcome::KeyTooLong => 0,
+            Outcome::Rejected => 0,
+            Outcome::WordMissing => 0,
+            Outcome::SumAbove => 0,
+            Outcome::ListsDiffer => 0,
+            Outcome::OutputShort => 0,
+        }
+    }
+
+    pub fn is_done(self) -> bool
+        ensures { λ r. ⌜ r ≡ isDone self ⌝ }
+    {
+        self.number() == 0
+    }
+}

@@ -1,0 +1,37 @@
+-- A chain of tests in the code, `if !test(..) { return refusal; }`, against the chain of `must` in a definition: `search calls` closes each return.
+-- Assumes nothing.
+use mathlib.Core.Path.{_≡_, refl, sym, _∙_}
+use mathlib.Core.Bool.{Bool, true, false, not, _&&_}
+use Prim.Native.Nat.{ℕ}
+use native.Mathlib.Omega.{arith}
+use borrow.Author.Needs.{needs}
+use borrow.Author.Tests.{not-true, not-false}
+use Rattle.laws.specs.Refusals.{must}
+
+-- the test answered r, which its contract says is s
+module _ {ℓ} {A : Type ℓ} where
+  pub stop : (r s : Bool) (x refusal next : A) → r ≡ s → not r ≡ true → x ≡ refusal → x ≡ must s refusal next
+  stop r s x refusal next e t k = rw (sym e ∙ not-true r t) k
+
+  pub pass : (r s : Bool) (x refusal next : A) → r ≡ s → not r ≡ false → x ≡ next → x ≡ must s refusal next
+  pass r s x refusal next e t k = rw (sym e ∙ not-false r t) k
+
+pub failed : {r s : Bool} → r ≡ s → not r ≡ true → s ≡ false
+failed {r} e t = sym e ∙ not-true r t
+
+pub passed : {r s : Bool} → r ≡ s → not r ≡ false → s ≡ true
+passed {r} e t = sym e ∙ not-false r t
+
+pub differ : false ≡ true → ⊥
+differ e = let z : _≡_ {A = ℕ} 0 1 = cc in omega arith
+
+pub and-left : (p q : Bool) → p && q ≡ true → p ≡ true
+and-left true q e = refl
+and-left false q e = e
+
+pub and-right : (p q : Bool) → p && q ≡ true → q ≡ true
+and-right true q e = e
+and-right false true e = refl
+and-right false false e = e
+
+pub ruleset calls = (needs, stop, pass)

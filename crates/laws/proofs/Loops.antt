@@ -1,0 +1,67 @@
+-- What a loop over a vector has done once it has passed i entries: it rewrites them (`Rewritten`), or it scans them (`Scanned`). Assumes nothing.
+use mathlib.Core.Path.{_≡_, refl, sym, ap, _∙_}
+use mathlib.Core.Bool.{Bool, true, false, _&&_}
+use mathlib.Core.List.{List, [], _∷_, _++_, append-nil}
+use Prim.Native.Nat.{ℕ, zero, suc, _+_, _<_, _≤_}
+use native.Mathlib.Nat.{not-suc-le-zero, le-of-suc-le-suc, suc-inj, suc-ne-zero}
+use native.Mathlib.Numerals.{add-one}
+use native.Mathlib.Omega.{arith}
+use lib.ListN.{length, take, drop, getD, set, length-take, length-drop, length-append, length-set, drop-of-length-le}
+use lib.Seq.{take-all, drop-cons}
+use Rattle.laws.specs.Lists.{every}
+
+-- ---- rewriting: l is being replaced by w from the left; the first i entries are w's, and the others are l's still
+module _ {A : Type 0} where
+  abbrev pub swept : List A → List A → ℕ → List A
+  swept l w i = take i w ++ drop i l
+
+  kept-at : (l w : List A) (i : ℕ) (d : A) → i < length l → length w ≡ length l → getD (swept l w i) i d ≡ getD l i d
+  kept-at [] w i d h e = absurd (not-suc-le-zero h)
+  kept-at (x ∷ l) w zero d h e = refl
+  kept-at (x ∷ l) [] (suc i) d h e = absurd (suc-ne-zero (length l) (sym e))
+  kept-at (x ∷ l) (y ∷ w) (suc i) d h e = kept-at l w i d (le-of-suc-le-suc h) (suc-inj e)
+
+  set-at : (l w : List A) (i : ℕ) (d : A) → i < length l → length w ≡ length l → set (swept l w i) i (getD w i d) ≡ swept l w (suc i)
+  set-at [] w i d h e = absurd (not-suc-le-zero h)
+  set-at (x ∷ l) [] i d h e = absurd (suc-ne-zero (length l) (sym e))
+  set-at (x ∷ l) (y ∷ w) zero d h e = refl
+  set-at (x ∷ l) (y ∷ w) (suc i) d h e = ap (λ (r : List A). y ∷ r) (set-at l w i d (le-of-suc-le-suc h) (suc-inj e))
+
+  pub record Rewritten (l w : List A) (i : ℕ) (now : List A) : Type 0 where
+    pub long : length now ≡ length l
+    pub is : now ≡ swept l w i
+
+  module _ (l w : List A) (same : length w ≡ length l) where
+    pub start : Rewritten l w 0 l
+    start = record { long = refl; is = refl }
+
+    module _ {i : ℕ} {now : List A} (so : Rewritten l w i now) where
+      -- the entry that is replaced next is as it was
+      pub next-is : (d : A) → i < length l → getD now i d ≡ getD l i d
+      next-is d h = ap (λ (r : List A). getD r i d) (so .is) ∙ kept-at l w i d h same
+
+      pub more : (d x : A) → i < length l → x ≡ getD w i d → Rewritten l w (i + 1) (set now i x)
+      more d x h e =
+          record {
+            long = length-set now i x ∙ so .long;
+            is = rw add-one (ap (λ (y : A). set now i y) e ∙ ap (λ (r : List A). set r i (getD w i d)) (so .is) ∙ set-at l w i d h same);
+          }
+
+      pub finish : length l ≤ i → now ≡ w
+      finish h =
+          let k : length w ≤ i = omega arith in
+          so .is ∙ ap (λ (r : List A). take i w ++ r) (drop-of-length-le l h) ∙ append-nil (take i w) ∙ take-all i w k
+
+-- ---- scanning: a test of the whole is the test of what is left
+module _ {A : Type 0} (test : A → Bool) (d : A) (xs : List A) (i : ℕ) (so : every test xs ≡ every test (drop i xs)) where
+  pub scan-stops : i < length xs → test (getD xs i d) ≡ false → false ≡ every test xs
+  unfolding every
+  scan-stops h e = sym (so ∙ rw (drop-cons xs i d, e))
+
+  pub scan-passes : i < length xs → test (getD xs i d) ≡ true → every test xs ≡ every test (drop (i + 1) xs)
+  unfolding every
+  scan-passes h e = so ∙ rw (add-one, drop-cons xs i d, e)
+
+  pub scan-ends : length xs ≤ i → true ≡ every test xs
+  unfolding every
+  scan-ends h = sym (so ∙ rw (drop-of-length-le xs h))

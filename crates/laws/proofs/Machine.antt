@@ -1,0 +1,116 @@
+-- Signed machine numbers: a local of width w holds bits n and reads as z. Each operation has what it asks (`-ok`) and what it leaves (`-is`), once for
+-- every width. Assumes nothing.
+use mathlib.Core.Path.{_≡_, refl, sym, _∙_, ap}
+use mathlib.Core.Bool.{Bool, true, false}
+use Prim.Native.Nat.{ℕ, zero, suc, _+_, _*_, _-_, _^_, _<_, _≤_}
+use native.Mathlib.Omega.{arith}
+use lib.Dec.{T}
+use lib.IntN.{ℤ, pos, negsuc, negℤ, natAbs, _+ℤ_, _-ℤ_, _*ℤ_}
+use lib.Signed.{mag, nonNeg, ltZ, leZ}
+use mir.Syntax.{Width}
+use mir.Val.{SFits, Fits, bits, hbits, toZ, ofZ}
+use mir.Facts.{toZ-ofZ}
+use mir.ValLaws.{toZ-pos, toZ-neg}
+use Rattle.laws.proofs.Bounds.{abs-add, abs-sub, abs-mul, mag-abs}
+use Rattle.laws.proofs.Linear.{above, under}
+
+pub record Reads (w : Width) (n : ℕ) (z : ℤ) : Type 0 where
+  pub back : toZ w n ≡ z
+
+-- z fits where |z| is below half the width's power; the least number fits besides
+pub fits : {w : Width} {z : ℤ} → natAbs z < 2 ^ hbits w → SFits w z
+fits {w} {z} h = record { sfits = omega (arith, mag-abs z) }
+
+-- ---- where a value comes from
+
+-- a parameter or a result: a number that fits, written as bits
+pub given : {w : Width} {z : ℤ} → SFits w z → Reads w (ofZ w z) z
+given f = record { back = toZ-ofZ f }
+
+-- an element that was read, of which the rule tells the size
+pub element : (w : Width) (z : ℤ) → mag z < 2 ^ hbits w → Reads w (ofZ w z) z
+element w z h = given (record { sfits = h })
+
+-- a local that a loop changes, of which the invariant speaks by `toZ`
+pub held : (w : Width) (n : ℕ) → Reads w n (toZ w n)
+held w n = record { back = refl }
+
+-- an unsigned number of at most half the width's power, cast to a signed type
+pub positive : (w : Width) (n : ℕ) → n < 2 ^ hbits w → Reads w n (pos n)
+positive w n h = record { back = toZ-pos w n h }
+
+-- ---- operations
+module _ {w : Width} {n m : ℕ} {x y : ℤ} (p : Reads w n x) (q : Reads w m y) (o : ℤ → ℤ → ℤ) (h : SFits w (o x y)) where
+  operation-ok : SFits w (o (toZ w n) (toZ w m))
+  operation-ok = rw (p .back, q .back) h
+
+  operation-is : Reads w (ofZ w (o (toZ w n) (toZ w m))) (o x y)
+  operation-is = record { back = toZ-ofZ operation-ok ∙ rw (p .back, q .back) }
+
+module _ {w : Width} {n m : ℕ} {x y : ℤ} (p : Reads w n x) (q : Reads w m y) where
+  module _ (h : natAbs x + natAbs y < 2 ^ hbits w) where
+    pub add-ok : SFits w (toZ w n +ℤ toZ w m)
+    add-ok = operation-ok p q _+ℤ_ (fits (omega (arith, abs-add x y)))
+
+    pub add-is : Reads w (ofZ w (toZ w n +ℤ toZ w m)) (x +ℤ y)
+    add-is = operation-is p q _+ℤ_ (fits (omega (arith, abs-add x y)))
+
+    pub sub-ok : SFits w (toZ w n -ℤ toZ w m)
+    sub-ok = operation-ok p q _-ℤ_ (fits (omega (arith, abs-sub x y)))
+
+    pub sub-is : Reads w (ofZ w (toZ w n -ℤ toZ w m)) (x -ℤ y)
+    sub-is = operation-is p q _-ℤ_ (fits (omega (arith, abs-sub x y)))
+
+  module _ (h : natAbs x * natAbs y < 2 ^ hbits w) where
+    pub mul-ok : SFits w (toZ w n *ℤ toZ w m)
+    mul-ok = operation-ok p q _*ℤ_ (fits (omega (arith, abs-mul x y)))
+
+    pub mul-is : Reads w (ofZ w (toZ w n *ℤ toZ w m)) (x *ℤ y)
+    mul-is = operation-is p q _*ℤ_ (fits (omega (arith, abs-mul x y)))
+
+-- ---- casts
+module _ {w : Width} {n : ℕ} {x : ℤ} (p : Reads w n x) (w′ : Width) where
+  -- to a signed type that holds the number
+  module _ (h : SFits w′ x) where
+    pub cast-ok : SFits w′ (toZ w n)
+    cast-ok = rw (p .back) h
+
+    pub cast-is : Reads w′ (ofZ w′ (toZ w n)) x
+    cast-is = record { back = toZ-ofZ cast-ok ∙ p .back }
+
+  -- to an unsigned type: the number is not negative, and its size fits
+  pub unsigned-ok : T (nonNeg x) → natAbs x < 2 ^ bits w′ → T (nonNeg (toZ w n)) × Fits w′ (natAbs (toZ w n))
+  unsigned-ok t h = rw (p .back) (t, record { fits = h })
+
+pub unsigned-is : {w : Width} {n : ℕ} {x : ℤ} → Reads w n x → natAbs (toZ w n) ≡ natAbs x
+unsigned-is p = ap natAbs (p .back)
+
+-- ---- tests: what a flag says of the numbers
+module _ {w : Width} {n m : ℕ} {x y : ℤ} (p : Reads w n x) (q : Reads w m y) {b : Bool} where
+  pub lt-is : ltZ (toZ w n) (toZ w m) ≡ b → ltZ x y ≡ b
+  lt-is e = rw (← (p .back), ← (q .back)) e
+
+  pub le-is : leZ (toZ w n) (toZ w m) ≡ b → leZ x y ≡ b
+  le-is e = rw (← (p .back), ← (q .back)) e
+
+-- ---- two's complement
+pub bits-above : (w : Width) (z : ℤ) → under z ≤ above z → ofZ w z ≡ above z
+bits-above w (pos n) h = refl
+bits-above w (negsuc n) h = absurd (no n h)
+  where
+    no : (n : ℕ) → suc n ≤ 0 → ⊥
+    no n h = omega arith
+
+pub bits-under : (w : Width) (z : ℤ) → above z < under z → ofZ w z ≡ 2 ^ bits w - under z
+bits-under w (pos n) h = absurd (no n h)
+  where
+    no : (n : ℕ) → n < 0 → ⊥
+    no n h = omega arith
+bits-under w (negsuc n) h = refl
+
+-- the bits from half the width's power on are a negative number
+pub high-bits : (w : Width) (n : ℕ) → n < 2 ^ bits w → 2 ^ bits w ≤ n + 2 ^ hbits w → toZ w n ≡ negsuc (2 ^ bits w - suc n)
+high-bits w n h half = ap (toZ w) (cut (2 ^ bits w) n h) ∙ toZ-neg w (2 ^ bits w - suc n) (omega arith)
+  where
+    cut : (b n : ℕ) → n < b → n ≡ b - suc (b - suc n)
+    cut b n h = omega arith
