@@ -1,0 +1,2 @@
+-- 01, "Length rule".
+pub mod LengthRule

@@ -1,0 +1,2 @@
+-- 01, "Ring arithmetic": rounding.
+pub mod Rounding
