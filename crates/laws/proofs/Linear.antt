@@ -7,7 +7,7 @@ use Prim.Native.Nat.{ℕ, zero, suc, _+_, _*_, _-_, _<_, _≤_}
 use native.Mathlib.Omega.{arith}
 use lib.Dec.{T, leb, ltb, leb→le, le→leb, ltb→lt, lt→ltb, nltb→le, nleb→lt}
 use lib.IntN.{ℤ, pos, negsuc, negℤ, natAbs, subℕ, _+ℤ_, _-ℤ_, _*ℤ_}
-use lib.Signed.{_≤ℤ_, _<ℤ_, leZ, ltZ, nonNeg}
+use lib.Signed.{_≤ℤ_, _<ℤ_, leZ, ltZ, mag, nonNeg}
 use Rattle.laws.proofs.Bounds.{cond-ind}
 
 abbrev pub above : ℤ → ℕ
@@ -55,6 +55,11 @@ size (negsuc n) = omega arith
 pub size-le : (x : ℤ) (bound : ℕ) → above x ≤ bound + under x → under x ≤ bound + above x → natAbs x ≤ bound
 size-le (pos n) bound h k = omega arith
 size-le (negsuc n) bound h k = omega arith
+
+-- the most that fits a width is one less than the size of its least number
+pub above-mag : (z : ℤ) → above z ≤ mag z
+above-mag (pos n) = omega arith
+above-mag (negsuc n) = omega arith
 
 -- ---- what is known
 le-true : (x y : ℤ) → T (leZ x y) → above x + under y ≤ above y + under x

@@ -1,1 +1,3 @@
--- Laws.
+-- What the other crates cite of rounding.
+pub mod Digits
+pub mod Table

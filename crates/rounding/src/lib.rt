@@ -1,1 +1,90 @@
-// rounding
+// Rounding: upper digits, centring modulo p, and the sums that are rounded (01, "Ring arithmetic").
+// A number is reduced modulo 24578 before it is rounded, always: 25,089 reduces to 511, whose upper digits are 0 at d = 10; rounded first it gives 1.
+ghost use mathlib.Core.Path.{_≡_};
+ghost use Prim.Native.Nat.{_+_, _%_, _<_};
+ghost use lib.IntN.{pos, natAbs, _+ℤ_, _-ℤ_};
+ghost use Rattle.laws.specs.Integers.{residue};
+ghost use Rattle.sets.specs.Numbers.{twiceModulus, pOf};
+ghost use Rattle.rounding.specs.Rounding.{upper, centred, summed, dagger as daggerOf, restored as restoredOf};
+use sets::Set;
+
+// The upper digits of x, reduced first. With 2^(d-1) added, a reduced x is below p + 1 steps, so the remainder by p is 0 at p and the number itself below.
+pub fn upper_digits(s: Set, x: u32) -> u32
+    ensures { λ r. ⌜ r ≡ upper s (x % twiceModulus) ⌝ }
+{
+    let reduced = x % Set::TWICE_MODULUS;
+    let steps = (reduced + s.step() / 2) >> s.d();
+    if steps == s.p() { 0 } else { steps }
+}
+
+// x modulo p, of x below 2p.
+fn wrap(s: Set, x: u32) -> u32
+    requires { ⌜ x < pOf s + pOf s ⌝ }
+    ensures { λ r. ⌜ (r ≡ residue (pOf s) (pos x)) × (r < pOf s) ⌝ }
+{
+    let p = s.p();
+    if x < p { x } else { x - p }
+}
+
+// A residue modulo p, centred: p/2 goes to -p/2.
+pub fn centre(s: Set, x: u32) -> i8
+    requires { ⌜ x < pOf s ⌝ }
+    ensures { λ r. ⌜ r ≡ centred s (pos x) ⌝ }
+{
+    let p = s.p();
+    if x < p / 2 {
+        x as i8
+    } else {
+        0 - ((p - x) as i8)
+    }
+}
+
+// y and two moduli, which is not negative.
+fn lift(y: i16) -> u32
+    ensures { λ r. ⌜ (pos r ≡ y +ℤ pos 49156) × (r < 81924) ⌝ }
+{
+    (y as i32 + 49156) as u32
+}
+
+// 12288 t + y modulo 24578.
+pub fn sum(t: u16, y: i16) -> u32
+    ensures { λ r. ⌜ r ≡ summed t y ⌝ }
+{
+    (Set::FACTOR * (t as u32) + lift(y)) % Set::TWICE_MODULUS
+}
+
+// u - z modulo 24578.
+pub fn difference(u: u32, z: i16) -> u32
+    requires { ⌜ u < twiceModulus ⌝ }
+    ensures { λ r. ⌜ r ≡ residue twiceModulus (pos u -ℤ z) ⌝ }
+{
+    (u + 98312 - lift(z)) % Set::TWICE_MODULUS
+}
+
+// z2 dagger at one place.
+pub fn dagger(s: Set, u: u32, z: i16) -> i8
+    requires { ⌜ u < twiceModulus ⌝ }
+    ensures { λ r. ⌜ r ≡ daggerOf s u z ⌝ }
+{
+    let whole = upper_digits(s, u);
+    let rest = upper_digits(s, difference(u, z));
+    centre(s, wrap(s, whole + s.p() - rest))
+}
+
+// z modulo p, of z2 dagger within p.
+fn raise(s: Set, z: i8) -> u32
+    requires { ⌜ natAbs z < pOf s ⌝ }
+    ensures { λ r. ⌜ (pos r ≡ z +ℤ pos (pOf s)) × (r < pOf s + pOf s) ⌝ }
+{
+    let p = s.p() as i32;
+    (z as i32 + p) as u32
+}
+
+// What the rebuild answers at one place.
+pub fn restored(s: Set, w: u32, z: i8) -> u16
+    requires { ⌜ natAbs z < pOf s ⌝ }
+    ensures { λ r. ⌜ r ≡ restoredOf s (w % twiceModulus) z ⌝ }
+{
+    let moved = wrap(s, raise(s, z));
+    wrap(s, upper_digits(s, w) + moved) as u16
+}

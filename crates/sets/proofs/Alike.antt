@@ -1,6 +1,6 @@
 -- What holds of every set alike: the few laws of d, p, kappa and K that everything else is proved from.
 use mathlib.Core.Path.{_≡_, refl}
-use Prim.Native.Nat.{ℕ, _+_, _*_, _/_, _^_, _<_, _≤_}
+use Prim.Native.Nat.{ℕ, _+_, _*_, _-_, _/_, _^_, _<_, _≤_}
 use lib.Dec.{lit<, lit≤}
 use Rattle.sets.specs.declared.Set.{Set}
 use Rattle.sets.specs.declared.Set.the-variants.{I, II, III, IV}
@@ -21,6 +21,16 @@ p-is-quotient = each _ refl refl refl refl
 -- p 2^d is 2q - 2, and not 2q
 pub spread : (s : Set) → pOf s * 2 ^ dOf s + 2 ≡ twiceModulus
 spread = each _ refl refl refl refl
+
+-- half a step is 2^(d-1)
+pub half-step : (s : Set) → 2 ^ dOf s / 2 ≡ 2 ^ (dOf s - 1)
+half-step = each _ refl refl refl refl
+
+pub step-small : (s : Set) → 2 ^ dOf s ≤ 1024
+step-small = each _ (lit≤ tt) (lit≤ tt) (lit≤ tt) (lit≤ tt)
+
+pub step-positive : (s : Set) → 256 ≤ 2 ^ dOf s
+step-positive = each _ (lit≤ tt) (lit≤ tt) (lit≤ tt) (lit≤ tt)
 
 pub p-even : (s : Set) → pOf s ≡ pOf s / 2 + pOf s / 2
 p-even = each _ refl refl refl refl

@@ -1,5 +1,6 @@
 // The parameter sets: the numbers of a set are asked of the set and stand nowhere else (01, "Parameters").
 ghost use mathlib.Core.Path.{_≡_};
+ghost use Prim.Native.Nat.{_^_};
 ghost use Rattle.sets.specs.Numbers.{kappaOf, dOf, pOf, largestOf, boundSquaredOf, keyLimitOf, totalOf, numberOf, namedOf, askedOf};
 
 pub enum Set {
@@ -57,6 +58,13 @@ impl Set {
             Set::III => 9,
             Set::IV => 8,
         }
+    }
+
+    // 2^d.
+    pub fn step(self) -> u32
+        ensures { λ r. ⌜ r ≡ 2 ^ dOf self ⌝ }
+    {
+        1 << self.d()
     }
 
     pub fn p(self) -> u32

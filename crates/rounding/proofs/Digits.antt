@@ -1,0 +1,99 @@
+-- Upper digits by their steps, and the residues and centred numbers modulo p. Assumes nothing.
+use mathlib.Core.Path.{_≡_, refl, sym, ap, _∙_}
+use mathlib.Core.Bool.{Bool, true, false, cond}
+use mathlib.Core.List.{[], _∷_}
+use Prim.Native.Nat.{ℕ, suc, _+_, _*_, _-_, _/_, _%_, _^_, _<_, _≤_}
+use native.Mathlib.Nat.{div-lt-iff-lt-mul, suc-mul, mod-lt, mod-eq-of-lt, mod-self}
+use native.Mathlib.Omega.{arith}
+use borrow.Author.Tests.{lt-ltb, le-ltb}
+use lib.Dec.{ltb, lit<}
+use lib.IntN.{ℤ, pos, negℤ, natAbs, _+ℤ_, _-ℤ_, _*ℤ_, +ℤ-idl}
+use Rattle.laws.specs.Integers.{residue}
+use Rattle.laws.proofs.Linear.{above, under, sum, difference, opposite, eq-out, size-le, eq-in}
+use Rattle.laws.proofs.Congruence.{Cong, cong-eq, cong-trans, cong-multiple, residue-is, residue-small, residue-same, residue-lt, residue-cong, cong-sym, cong-add, cong-refl, cong-mod}
+use Rattle.laws.proofs.Solver.{v, k, _⊕_, _⊖_, _⊗_, ring}
+use Rattle.sets.specs.declared.Set.{Set}
+use Rattle.sets.specs.Numbers.{twiceModulus, factor, dOf, pOf}
+use Rattle.sets.proofs.Alike.{spread, half-step, step-positive, p-positive, p-even, p-small}
+use Rattle.rounding.specs.Rounding.{upper, centred, summed, dagger, restored}
+
+pub upper-lt : (s : Set) (x : ℕ) → upper s x < pOf s
+unfolding upper
+upper-lt s x = mod-lt _ (p-positive s)
+
+-- the steps of a reduced number are at most p
+module _ (s : Set) (x : ℕ) (small : x < twiceModulus) where
+  abbrev steps : ℕ
+  steps = (x + 2 ^ dOf s / 2) / 2 ^ dOf s
+
+  steps-le : steps < suc (pOf s)
+  steps-le =
+      let h : 0 < 2 ^ dOf s = omega (arith, step-positive s) in
+      div-lt-iff-lt-mul h .1 (omega (arith, spread s, step-positive s, suc-mul (pOf s) (2 ^ dOf s)))
+
+  upper-steps : upper s x ≡ steps % pOf s
+  unfolding upper
+  upper-steps = ap (λ (h : ℕ). (x + h) / 2 ^ dOf s % pOf s) (sym (half-step s))
+
+  -- at p steps the remainder by p is 0
+  pub upper-last : steps ≡ pOf s → 0 ≡ upper s x
+  upper-last e = sym (upper-steps ∙ ap (λ (n : ℕ). n % pOf s) e ∙ mod-self (pOf s))
+
+  pub upper-inner : (steps ≡ pOf s → ⊥) → steps ≡ upper s x
+  upper-inner n =
+      let h : steps < pOf s = omega (arith, steps-le) in
+      sym (upper-steps ∙ mod-eq-of-lt h)
+
+-- ---- modulo p
+module _ (s : Set) where
+  -- a number below 2p, less p where it is not below p
+  pub wrap-low : (x : ℕ) → x < pOf s → x ≡ residue (pOf s) (pos x)
+  wrap-low x h = sym (residue-small x h)
+
+  pub wrap-high : (x : ℕ) → pOf s ≤ x → x < pOf s + pOf s → x - pOf s ≡ residue (pOf s) (pos x)
+  wrap-high x h j =
+      sym (residue-is (p-positive s) (record { times = pos 1; eq = eq-out (pos x) (pos (x - pOf s) +ℤ pos (pOf s) *ℤ pos 1) (omega arith) }) (omega arith))
+
+  -- a residue, centred
+  pub centre-low : (x : ℕ) → x < pOf s / 2 → pos x ≡ centred s (pos x)
+  unfolding centred
+  centre-low x h =
+      let e : residue (pOf s) (pos x) ≡ x = residue-small x (omega (arith, p-even s)) in
+      rw (e, lt-ltb x (pOf s / 2) h)
+
+  pub centre-high : (x : ℕ) → pOf s / 2 ≤ x → x < pOf s → pos 0 -ℤ pos (pOf s - x) ≡ centred s (pos x)
+  unfolding centred
+  centre-high x h j =
+      let e : residue (pOf s) (pos x) ≡ x = residue-small x j in
+      rw (e, le-ltb x (pOf s / 2) h)
+      (eq-out (pos 0 -ℤ pos (pOf s - x)) (pos x -ℤ pos (pOf s)) (omega (arith, difference (pos 0) (pos (pOf s - x)), difference (pos x) (pos (pOf s)))))
+
+  -- only the residue counts
+  pub centred-same : (x y : ℤ) → residue (pOf s) x ≡ residue (pOf s) y → centred s x ≡ centred s y
+  unfolding centred
+  centred-same x y e = rw e
+
+-- a whole number plus a multiple of m has the residue of the sum, wherever the sum is a natural number
+pub residue-of-sum : (m n : ℕ) (t z : ℤ) → 0 < m → pos n ≡ z +ℤ pos m *ℤ t → n % m ≡ residue m z
+residue-of-sum m n t z h e =
+    sym (residue-is h (cong-trans (cong-sym (cong-trans (cong-eq e) (cong-multiple z t))) (cong-mod n)) (mod-lt n h))
+
+module _ (s : Set) where
+  -- a difference of upper digits, with p added so that it is not negative
+  pub difference-wraps : (a b : ℕ) → b ≤ a + pOf s → residue (pOf s) (pos (residue (pOf s) (pos (a + pOf s - b)))) ≡ residue (pOf s) (pos a -ℤ pos b)
+  difference-wraps a b h =
+      residue-same (p-positive s)
+      (cong-trans (cong-sym (residue-cong (p-positive s) (pos (a + pOf s - b))))
+      (record {
+        times = pos 1;
+        eq = eq-out (pos (a + pOf s - b)) ((pos a -ℤ pos b) +ℤ pos (pOf s) *ℤ pos 1)
+            (omega (arith, difference (pos a) (pos b), sum (pos a -ℤ pos b) (pos (pOf s) *ℤ pos 1)));
+      }))
+
+  -- a sum whose second part was raised by p and reduced
+  pub sum-wraps : (a r : ℕ) (z : ℤ) → pos r ≡ z +ℤ pos (pOf s) → residue (pOf s) (pos (a + residue (pOf s) (pos r))) ≡ residue (pOf s) (pos a +ℤ z)
+  sum-wraps a r z e =
+      let c : Cong (pOf s) (pos (residue (pOf s) (pos r))) z =
+        cong-trans (cong-sym (residue-cong (p-positive s) (pos r)))
+        (record { times = pos 1; eq = e ∙ ring (z ∷ pos (pOf s) ∷ []) (v 0 ⊕ v 1) (v 0 ⊕ v 1 ⊗ k (pos 1)) refl }) in
+      residue-same (p-positive s) (cong-add (cong-refl (pos a)) c)
