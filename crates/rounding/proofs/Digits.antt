@@ -94,6 +94,6 @@ module _ (s : Set) where
   pub sum-wraps : (a r : ℕ) (z : ℤ) → pos r ≡ z +ℤ pos (pOf s) → residue (pOf s) (pos (a + residue (pOf s) (pos r))) ≡ residue (pOf s) (pos a +ℤ z)
   sum-wraps a r z e =
       let c : Cong (pOf s) (pos (residue (pOf s) (pos r))) z =
-        cong-trans (cong-sym (residue-cong (p-positive s) (pos r)))
-        (record { times = pos 1; eq = e ∙ ring (z ∷ pos (pOf s) ∷ []) (v 0 ⊕ v 1) (v 0 ⊕ v 1 ⊗ k (pos 1)) refl }) in
+      cong-trans (cong-sym (residue-cong (p-positive s) (pos r)))
+      (record { times = pos 1; eq = e ∙ ring (z ∷ pos (pOf s) ∷ []) (v 0 ⊕ v 1) (v 0 ⊕ v 1 ⊗ k (pos 1)) refl }) in
       residue-same (p-positive s) (cong-add (cong-refl (pos a)) c)

@@ -71,8 +71,8 @@ unfolding dagger
 returns c =
     let p = c .before .before in
     let moved : c .before .wrap .result ≡ residue (pOf (s p)) (pos (whole p + pOf (s p) - rest p)) =
-      c .before .wrap .ensures .0
-      ∙ ap (λ (n : ℕ). residue (pOf (s p)) (pos n)) (omega (arith, whole-is p, rest-is p, sizes p)) in
+    c .before .wrap .ensures .0
+    ∙ ap (λ (n : ℕ). residue (pOf (s p)) (pos n)) (omega (arith, whole-is p, rest-is p, sizes p)) in
     element w8 (c .centre .result) (c .centre .ok) .back ∙ c .centre .ensures
     ∙ ap (λ (n : ℕ). centred (s p) (pos n)) moved
     ∙ centred-same (s p) _ _ (difference-wraps (s p) (whole p) (rest p) (omega (arith, sizes p)))

@@ -42,7 +42,7 @@ returns c =
     let a = c .before .before .before .before .args in
     let raised = c .before .before .before .raise in
     let e : pos (raised .result) ≡ a .z +ℤ pos (pOf (a .s)) =
-      raised .ensures .0 ∙ ap (λ (z : ℤ). z +ℤ pos (pOf (a .s))) (given (c .before .before .before .before .fits .z) .back) in
+    raised .ensures .0 ∙ ap (λ (z : ℤ). z +ℤ pos (pOf (a .s))) (given (c .before .before .before .before .fits .z) .back) in
     c .wrap2 .ensures .0
     ∙ ap₂ (λ (x y : ℕ). residue (pOf (a .s)) (pos (x + y))) (c .before .upper-digits .ensures) (c .before .before .wrap .ensures .0)
     ∙ sum-wraps (a .s) (upper (a .s) (a .w % twiceModulus)) (raised .result) (a .z) e
