@@ -1,20 +1,21 @@
 -- The product modulo q is a product over residues alone. Assumes nothing.
-use mathlib.Core.Path.{_≡_, refl, sym, ap, ap₂, _∙_}
-use mathlib.Core.List.{List, [], _∷_, map, map-map}
-use Prim.Native.Nat.{ℕ, _%_, _<_}
+use mathlib.Core.Path.{_≡_, refl, sym, ap, ap₂, fun-ext, _∙_}
+use mathlib.Core.List.{List, [], _∷_, _++_, map, map-map, map-append}
+use Prim.Native.Nat.{ℕ, _-_, _%_, _<_}
 use lib.Dec.{lit<}
 use lib.IntN.{ℤ, pos, negsuc, negℤ, _+ℤ_, _*ℤ_}
-use lib.ListN.{length, take, getD, length-map, List·getD-map}
+use lib.ListN.{length, take, drop, getD, length-map, List·getD-map}
 use Rattle.laws.specs.Integers.{residue}
 use Rattle.laws.specs.Lists.{zipWith}
 use Rattle.laws.proofs.Products.{neg-as}
-use Rattle.laws.proofs.Congruence.{residue-add, residue-mul}
-use Rattle.laws.proofs.Pointwise.{map-take, map-zipWith}
+use Rattle.laws.proofs.Congruence.{Cong, residue-lt, residue-cong, residue-same, residue-small, residue-add, residue-mul}
+use Rattle.laws.proofs.Pointwise.{map-take, map-drop, map-zipWith}
 use Rattle.sets.specs.Numbers.{modulus}
-use Rattle.polynomials.specs.Product.{times, product}
+use Rattle.polynomials.specs.Product.{times, product, shift}
 use Rattle.polynomials.specs.Field.{add, mul, turnMod, fieldProduct}
-use Rattle.polynomials.proofs.Operations.{row}
+use Rattle.polynomials.proofs.Operations.{Linear, row, linear-cong}
 use Rattle.polynomials.proofs.Rows.{turn, byRows, times-rows}
+use Rattle.polynomials.proofs.Times.{length-times}
 
 positive : 0 < modulus
 positive = lit< tt
@@ -40,6 +41,23 @@ residues-rows (a ∷ f) g =
     map-zipWith (row a) (λ y z. add (mul (residue modulus a) y) z) (residue modulus) (residue modulus) (residue modulus) (residue-row a) g (turn (byRows f g))
     ∙ ap (zipWith (λ y z. add (mul (residue modulus a) y) z) (map (residue modulus) g)) (residues-turn (byRows f g) ∙ ap turnMod (residues-rows f g))
 
+-- ---- the product
+pub length-product : (a : List ℕ) (z : List ℤ) → length (product a z) ≡ 512
+unfolding product
+length-product a z = length-map (times (map pos a) z) (residue modulus) ∙ length-times (map pos a) z
+
+-- an entry is the residue of the entry over whole numbers
+pub product-at : (a : List ℕ) (z : List ℤ) (k : ℕ) → getD (product a z) k 0 ≡ residue modulus (getD (times (map pos a) z) k (pos 0))
+unfolding product residue
+product-at a z k = List·getD-map (residue modulus) (times (map pos a) z) k (pos 0)
+
+pub product-lt : (a : List ℕ) (z : List ℤ) (k : ℕ) → getD (product a z) k 0 < modulus
+product-lt a z k = rw product-at (residue-lt positive (getD (times (map pos a) z) k (pos 0)))
+
+-- and congruent to it
+pub times-cong : (a : List ℕ) (z : List ℤ) (k : ℕ) → Cong modulus (getD (times (map pos a) z) k (pos 0)) (pos (getD (product a z) k 0))
+times-cong a z k = rw product-at (residue-cong positive (getD (times (map pos a) z) k (pos 0)))
+
 -- the product of a public key and a signed vector is the product of their residues
 pub product-residues : (a : List ℕ) (z : List ℤ) → length a ≡ 512 → length z ≡ 512
     → product a z ≡ fieldProduct (map (λ x. x % modulus) a) (map (residue modulus) z)
@@ -48,3 +66,40 @@ product-residues a z la lz =
     ap (map (residue modulus)) (times-rows (map pos a) z (length-map a pos ∙ la) lz)
     ∙ residues-rows (map pos a) z
     ∙ ap (λ (l : List ℕ). fieldProduct l (map (residue modulus) z)) (map-map (residue modulus) pos a)
+
+-- it depends on the residues of the signed vector alone
+pub product-cong : (a : List ℕ) (y z : List ℤ) → length a ≡ 512 → length y ≡ 512 → length z ≡ 512
+    → map (residue modulus) y ≡ map (residue modulus) z → product a y ≡ product a z
+product-cong a y z la ly lz e =
+    product-residues a y la ly ∙ ap (fieldProduct (map (λ x. x % modulus) a)) e ∙ sym (product-residues a z la lz)
+
+-- ---- residues of shifts, sums and differences depend on residues alone
+residues-shift-is : (i : ℕ) (s : List ℤ)
+    → map (residue modulus) (shift i s) ≡ map (mul 12288) (drop (512 - i) (map (residue modulus) s)) ++ take (512 - i) (map (residue modulus) s)
+unfolding shift
+residues-shift-is i s =
+    let n = 512 - i in
+    map-append (residue modulus) (map negℤ (drop n s)) (take n s)
+    ∙ ap₂ _++_
+    (map-map (residue modulus) negℤ (drop n s) ∙ ap (λ (f : ℤ → ℕ). map f (drop n s)) (fun-ext residue-neg) ∙ sym (map-map (mul 12288) (residue modulus) (drop n s))
+    ∙ ap (map (mul 12288)) (map-drop (residue modulus) n s)) (map-take (residue modulus) n s)
+
+pub residues-shift : (i : ℕ) (x y : List ℤ) → map (residue modulus) x ≡ map (residue modulus) y → map (residue modulus) (shift i x) ≡ map (residue modulus) (shift i y)
+residues-shift i x y e =
+    residues-shift-is i x ∙ ap (λ (l : List ℕ). map (mul 12288) (drop (512 - i) l) ++ take (512 - i) l) e ∙ sym (residues-shift-is i y)
+
+module _ {o : ℤ → ℤ → ℤ} (l : Linear o) where
+  residues-zip : (x y : List ℤ) → map (residue modulus) (zipWith o x y)
+      ≡ zipWith (λ u w. residue modulus (o (pos u) (pos w))) (map (residue modulus) x) (map (residue modulus) y)
+  residues-zip x y =
+      map-zipWith o (λ u w. residue modulus (o (pos u) (pos w))) (residue modulus) (residue modulus) (residue modulus)
+      (λ u w. residue-same positive (linear-cong l (residue-cong positive u) (residue-cong positive w))) x y
+
+  pub residues-linear : (x x′ y y′ : List ℤ) → map (residue modulus) x ≡ map (residue modulus) x′ → map (residue modulus) y ≡ map (residue modulus) y′
+      → map (residue modulus) (zipWith o x y) ≡ map (residue modulus) (zipWith o x′ y′)
+  residues-linear x x′ y y′ e d = residues-zip x y ∙ ap₂ (zipWith (λ u w. residue modulus (o (pos u) (pos w)))) e d ∙ sym (residues-zip x′ y′)
+
+-- a residue is its own residue
+pub residues-again : (x : List ℤ) → map (residue modulus) (map pos (map (residue modulus) x)) ≡ map (residue modulus) x
+residues-again [] = refl
+residues-again (z ∷ x) = ap₂ _∷_ (residue-small (residue modulus z) (residue-lt positive z)) (residues-again x)

@@ -57,6 +57,13 @@ byRows-turn (a ∷ f) g e =
     ap (λ (h : List ℤ). zipWith (row a) (turn g) (turn h)) (byRows-turn f g e)
     ∙ sym (turn-linear (row-linear a) g (turn (byRows f g)) e (length-turn (byRows f g) (length-byRows f g e)))
 
+pub byRows-zero : (f : List ℤ) → byRows f (replicate 512 (pos 0)) ≡ replicate 512 (pos 0)
+unfolding byRows turn
+byRows-zero [] = refl
+byRows-zero (a ∷ f) =
+    ap (λ (h : List ℤ). zipWith (row a) (replicate 512 (pos 0)) (turn h)) (byRows-zero f)
+    ∙ zipWith-replicate (row a) 512 (pos 0) (pos 0) ∙ ap (replicate 512) (linear-zero (row-linear a))
+
 -- ---- it is the product by sums
 sum-ext : (t u : ℕ → ℤ) (n : ℕ) → ((i : ℕ) → i < n → t i ≡ u i) → sumℤ t n ≡ sumℤ u n
 unfolding sumℤ
