@@ -1,10 +1,10 @@
 -- Linear operations on two whole numbers: sums, differences and the step of a product by rows are alike. Assumes nothing.
 use mathlib.Core.Path.{_≡_, refl, sym, ap, ap₂, _∙_}
-use mathlib.Core.List.{List, [], _∷_}
+use mathlib.Core.List.{[], _∷_}
 use Prim.Native.Nat.{ℕ}
 use lib.IntN.{ℤ, pos, negsuc, negℤ, _+ℤ_, _-ℤ_, _*ℤ_}
 use Rattle.laws.proofs.Solver.{v, k, _⊕_, _⊖_, _⊗_, neg, ring}
-use Rattle.laws.proofs.Congruence.{Cong, cong-eq, cong-refl, cong-sym, cong-trans, cong-add, cong-mul}
+use Rattle.laws.proofs.Congruence.{Cong, cong-eq, cong-refl, cong-trans, cong-add, cong-mul}
 
 -- o x y is a multiple of x and a multiple of y
 pub record Linear (o : ℤ → ℤ → ℤ) : Type 0 where
@@ -12,16 +12,19 @@ pub record Linear (o : ℤ → ℤ → ℤ) : Type 0 where
   pub right : ℤ
   pub is : (x y : ℤ) → o x y ≡ left *ℤ x +ℤ right *ℤ y
 
+-- a sum
 pub plus : Linear _+ℤ_
 plus = record { left = pos 1; right = pos 1; is = λ x y. ring (x ∷ y ∷ []) (v 0 ⊕ v 1) (k (pos 1) ⊗ v 0 ⊕ k (pos 1) ⊗ v 1) refl }
 
+-- a difference
 pub minus : Linear _-ℤ_
 minus = record { left = pos 1; right = negsuc 0; is = λ x y. ring (x ∷ y ∷ []) (v 0 ⊖ v 1) (k (pos 1) ⊗ v 0 ⊕ k (negsuc 0) ⊗ v 1) refl }
 
--- a y + z, for a row of a product
+-- what a row of a product adds: a y + z
 abbrev pub row : ℤ → ℤ → ℤ → ℤ
 row a y z = a *ℤ y +ℤ z
 
+-- it is linear
 pub row-linear : (a : ℤ) → Linear (row a)
 row-linear a = record { left = a; right = pos 1; is = λ x y. ring (a ∷ x ∷ y ∷ []) (v 0 ⊗ v 1 ⊕ v 2) (v 0 ⊗ v 1 ⊕ k (pos 1) ⊗ v 2) refl }
 

@@ -1,7 +1,7 @@
 -- x^i times a vector of 512 entries: its entries, as a part of the doubled vector, as x over and over. Assumes nothing.
-use mathlib.Core.Path.{_≡_, refl, sym, ap, ap₂, _∙_}
+use mathlib.Core.Path.{_≡_, sym, ap, ap₂, _∙_}
 use mathlib.Core.List.{List, [], _∷_, _++_, map, append-assoc}
-use Prim.Native.Nat.{ℕ, zero, suc, _+_, _-_, _<_, _≤_}
+use Prim.Native.Nat.{ℕ, suc, _+_, _-_, _<_, _≤_}
 use native.Mathlib.Omega.{arith}
 use lib.IntN.{ℤ, pos, negℤ, _+ℤ_, _-ℤ_}
 use lib.ListN.{length, take, drop, getD, length-map, length-append, length-take, length-drop, drop-of-length-le, List·getD-append, List·getD-map}
@@ -13,16 +13,18 @@ use Rattle.polynomials.specs.Product.{shift}
 use Rattle.polynomials.proofs.Operations.{Linear, plus, minus, linear-neg}
 use Rattle.polynomials.proofs.Rows.{turn}
 
--- the turned part comes first
+-- the length of the part whose signs are turned
 length-turned : (n : ℕ) (s : List ℤ) → length (map negℤ (drop n s)) ≡ length s - n
 length-turned n s = length-map (drop n s) negℤ ∙ length-drop n s
 
+-- a shift keeps the length
 pub length-shift : (i : ℕ) (s : List ℤ) → length (shift i s) ≡ length s
 unfolding shift
 length-shift i s = simp (length-append, length-turned, length-take) (omega arith)
 
 -- ---- linear
 module _ {o : ℤ → ℤ → ℤ} (l : Linear o) where
+  -- the shift of a sum, or of a difference
   pub shift-linear : (i : ℕ) (xs ys : List ℤ) → length xs ≡ length ys → shift i (zipWith o xs ys) ≡ zipWith o (shift i xs) (shift i ys)
   unfolding shift
   shift-linear i xs ys e =
@@ -31,11 +33,11 @@ module _ {o : ℤ → ℤ → ℤ} (l : Linear o) where
       (ap (map negℤ) (drop-zipWith o n xs ys) ∙ map-zipWith o o negℤ negℤ negℤ (linear-neg l) (drop n xs) (drop n ys)) (take-zipWith o n xs ys)
       ∙ sym (zipWith-append o (map negℤ (drop n xs)) (take n xs) (map negℤ (drop n ys)) (take n ys) (simp length-turned (ap (λ (m : ℕ). m - n) e)))
 
--- the shift of a sum is the sum of the shifts
+-- a sum
 pub shift-add : (i : ℕ) (xs ys : List ℤ) → length xs ≡ length ys → shift i (zipWith _+ℤ_ xs ys) ≡ zipWith _+ℤ_ (shift i xs) (shift i ys)
 shift-add = shift-linear plus
 
--- and of a difference the difference
+-- a difference
 pub shift-sub : (i : ℕ) (xs ys : List ℤ) → length xs ≡ length ys → shift i (zipWith _-ℤ_ xs ys) ≡ zipWith _-ℤ_ (shift i xs) (shift i ys)
 shift-sub = shift-linear minus
 
@@ -69,15 +71,18 @@ module _ (i : ℕ) (s : List ℤ) (e : length s ≡ 512) where
       ∙ ap (λ (f : List ℤ). f ++ take n s) (sym (map-drop negℤ n s)))
 
 -- ---- x over and over
+
+-- x^0 changes nothing
 pub shift-zero : (s : List ℤ) → length s ≡ 512 → shift 0 s ≡ s
 unfolding shift
 shift-zero s e = ap₂ _++_ (ap (map negℤ) (drop-of-length-le s {i = 512} (omega arith))) (take-all 512 s (omega arith))
 
-turn-snoc : (p : List ℤ) (x : ℤ) → length p ≡ 511 → turn (p ++ (x ∷ [])) ≡ negℤ x ∷ p
+-- x times a vector that ends in l
+turn-snoc : (p : List ℤ) (l : ℤ) → length p ≡ 511 → turn (p ++ (l ∷ [])) ≡ negℤ l ∷ p
 unfolding turn
-turn-snoc p x e = ap₂ _∷_ (ap negℤ (getD-at p x [] (pos 0) 511 e)) (take-at p (x ∷ []) 511 e)
+turn-snoc p l e = ap₂ _∷_ (ap negℤ (getD-at p l [] (pos 0) 511 e)) (take-at p (l ∷ []) 511 e)
 
--- with one entry more taken to the front
+-- one entry more goes to the front
 turn-more : (n : ℕ) (s : List ℤ) → n < 512 → length s ≡ 512 → map negℤ (drop n s) ++ take n s ≡ turn (map negℤ (drop (suc n) s) ++ take (suc n) s)
 turn-more n s h e =
     let x = getD s n (pos 0) in

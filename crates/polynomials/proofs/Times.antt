@@ -1,7 +1,7 @@
 -- The product over whole numbers is linear in the signed operand, and commutes with x^i. Assumes nothing.
-use mathlib.Core.Path.{_≡_, refl, sym, ap, ap₂, _∙_}
-use mathlib.Core.List.{List, [], _∷_}
-use Prim.Native.Nat.{ℕ, zero, suc, _<_, _≤_}
+use mathlib.Core.Path.{_≡_, sym, ap, ap₂, _∙_}
+use mathlib.Core.List.{List}
+use Prim.Native.Nat.{ℕ, zero, suc, _≤_}
 use native.Mathlib.Omega.{arith}
 use lib.IntN.{ℤ, pos, _+ℤ_, _-ℤ_}
 use lib.ListN.{length, replicate, length-replicate}
@@ -12,6 +12,7 @@ use Rattle.polynomials.proofs.Operations.{Linear, plus, minus}
 use Rattle.polynomials.proofs.Rows.{turn, length-turn, byRows-linear, byRows-turn, byRows-zero, times-rows}
 use Rattle.polynomials.proofs.Shift.{length-shift, shift-zero, shift-suc}
 
+-- a product has 512 coefficients
 pub length-times : (a b : List ℤ) → length (times a b) ≡ 512
 unfolding times
 length-times a b = length-tabulate (coefficient a b) 512
@@ -22,16 +23,17 @@ module _ (a : List ℤ) (la : length a ≡ 512) where
   times-zero = times-rows a (replicate 512 (pos 0)) la (length-replicate 512 (pos 0)) ∙ byRows-zero a
 
   module _ (y v : List ℤ) (ly : length y ≡ 512) (lv : length v ≡ 512) where
+    -- a times a sum, or a difference
     pub times-linear : {o : ℤ → ℤ → ℤ} → Linear o → times a (zipWith o y v) ≡ zipWith o (times a y) (times a v)
     times-linear {o} l =
         times-rows a (zipWith o y v) la (length-zipWith o y v (ly ∙ sym lv) ∙ ly) ∙ byRows-linear l a y v ly lv
         ∙ sym (ap₂ (zipWith o) (times-rows a y la ly) (times-rows a v la lv))
 
-    -- a times a sum
+    -- a sum
     pub times-add : times a (zipWith _+ℤ_ y v) ≡ zipWith _+ℤ_ (times a y) (times a v)
     times-add = times-linear plus
 
-    -- a times a difference
+    -- a difference
     pub times-sub : times a (zipWith _-ℤ_ y v) ≡ zipWith _-ℤ_ (times a y) (times a v)
     times-sub = times-linear minus
 
