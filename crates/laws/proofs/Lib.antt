@@ -1,5 +1,5 @@
 -- What the proofs of every layer cite. Whole numbers: `Products`, `Solver`, `Bounds`, `Linear`, `Congruence`, `Machine`;
--- vectors: `Entries`, `Loops`; refusals in their order: `Chain`.
+-- vectors: `Entries`, `Pointwise`, `Loops`; refusals in their order: `Chain`.
 pub mod Products
 pub mod Solver
 pub mod Bounds
@@ -8,4 +8,5 @@ pub mod Congruence
 pub mod Machine
 pub mod Chain
 pub mod Entries
+pub mod Pointwise
 pub mod Loops

@@ -1,2 +1,3 @@
 -- 01, "Ring arithmetic".
 pub mod Product
+pub mod Field
