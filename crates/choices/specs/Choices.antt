@@ -1,0 +1,46 @@
+-- The sign choices (01, "Response"; document 004, Algorithm 1): start with v1 = v2 = 0; for each place i in rising order take the inner product of
+-- (v1, v2) with (x^i s1, x^i s2); if it is zero or more, subtract that column from v, otherwise add it.
+use mathlib.Core.Bool.{Bool, true, false}
+use mathlib.Core.List.{List, [], _∷_}
+use Prim.Native.Nat.{ℕ}
+use lib.IntN.{ℤ, pos, _+ℤ_, _-ℤ_}
+use lib.ListN.{replicate}
+use lib.Signed.{ltZ}
+use Rattle.laws.specs.Lists.{zipWith}
+use Rattle.sets.specs.Numbers.{dimension}
+use Rattle.polynomials.specs.Product.{shift}
+use Rattle.vectors.specs.Vectors.{inner}
+
+-- a pair of vectors, as (v1, v2) and (s1, s2)
+pub record Pair : Type 0 where
+  pub first : List ℤ
+  pub second : List ℤ
+
+abbrev pub column : ℕ → Pair → Pair
+column i s = record { first = shift i (s .first); second = shift i (s .second) }
+
+abbrev pub innerPair : Pair → Pair → ℤ
+innerPair v c = inner (v .first) (c .first) +ℤ inner (v .second) (c .second)
+
+-- place by place in both vectors
+abbrev pub joined : (ℤ → ℤ → ℤ) → Pair → Pair → Pair
+joined o v c = record { first = zipWith o (v .first) (c .first); second = zipWith o (v .second) (c .second) }
+
+-- added where the inner product is negative, subtracted where it is zero or more
+abbrev pub signed : Bool → ℤ → ℤ → ℤ
+signed true = _+ℤ_
+signed false = _-ℤ_
+
+unfoldable pub chosen : Pair → Pair → Pair
+chosen v c = joined (signed (ltZ (innerPair v c) (pos 0))) v c
+
+-- from v on, over the places that are left
+unfoldable pub chooseFrom : Pair → List ℕ → Pair → Pair
+chooseFrom s [] v = v
+chooseFrom s (i ∷ l) v = chooseFrom s l (chosen v (column i s))
+
+abbrev pub zeros : Pair
+zeros = record { first = replicate dimension (pos 0); second = replicate dimension (pos 0) }
+
+unfoldable pub choices : Pair → List ℕ → Pair
+choices s l = chooseFrom s l zeros

@@ -1,0 +1,2 @@
+-- 01, "Response": the sign choices.
+pub mod Choices
