@@ -1,4 +1,4 @@
--- Laws of squared lengths and inner products.
+-- What the proofs of vectors cite, here and in the layers above: `Sums` and `Combine` for loops, `Rising` for lists.
 pub mod Sums
--- Laws of rising lists.
+pub mod Combine
 pub mod Rising

@@ -76,7 +76,11 @@ pub fn size(x: i16) -> u32
     ensures { λ r. ⌜ r ≡ natAbs x ⌝ }
 {
     let wide = x as i32;
-    if wide < 0 { (-wide) as u32 } else { wide as u32 }
+    if wide < 0 {
+        (-wide) as u32
+    } else {
+        wide as u32
+    }
 }
 
 // ---- copies
@@ -120,9 +124,60 @@ fn square(x: i16) -> u32
     product(x, x) as u32
 }
 
+// A part of the sum is at most the sum of the sizes passed, so that it fits where the whole does.
+pub fn inner_product(a: &[i16], b: &[i16]) -> i32
+    requires { ⌜ (length (now a) ≡ dimension) × (length (now b) ≡ dimension) × (sizes (now a) (now b) < 2 ^ 31) ⌝ }
+    ensures { λ r. ⌜ r ≡ inner (now (a .entry)) (now (b .entry)) ⌝ }
+{
+    let mut sum: i32 = 0;
+    for i in 0..Set::DIMENSION {
+        sum += product(a[i], b[i]);
+    }
+    sum
+}
+
 // At most 2^30 either way.
 fn product(x: i16, y: i16) -> i32
     ensures { λ r. ⌜ r ≡ x *ℤ y ⌝ }
 {
     (x as i32) * (y as i32)
+}
+
+// ---- columns x^i s
+
+// The column x^i s is the part of `out` from 512 - i to 1024 - i.
+pub fn mirror(s: &[i16], out: &mut [i16])
+    requires { ⌜ (length (now s) ≡ dimension) × (length (now out) ≡ 2 * dimension) × (every (within 32767) (now s) ≡ true) ⌝ }
+    ensures { λ _. ⌜ now (out .exit) ≡ mirrored (now (s .entry)) ⌝ }
+{
+    negate(&mut out[..Set::DIMENSION], s);
+    copy(&mut out[Set::DIMENSION..], s);
+}
+
+// The least i16 has no negative.
+fn negate(out: &mut [i16], x: &[i16])
+    requires { ⌜ (length (now out) ≡ dimension) × (length (now x) ≡ dimension) × (every (within 32767) (now x) ≡ true) ⌝ }
+    ensures { λ _. ⌜ now (out .exit) ≡ map negℤ (now (x .entry)) ⌝ }
+{
+    for i in 0..Set::DIMENSION {
+        out[i] = -x[i];
+    }
+}
+
+pub fn add_to(v: &mut [i16], c: &[i16])
+    requires { ⌜ (length (now v) ≡ dimension) × (length (now c) ≡ dimension) × ((k : ℕ) → natAbs (getD (now v) k (pos 0)) + natAbs (getD (now c) k (pos 0)) < 32768) ⌝ }
+    ensures { λ _. ⌜ now (v .exit) ≡ zipWith _+ℤ_ (now (v .entry)) (now (c .entry)) ⌝ }
+{
+    for i in 0..Set::DIMENSION {
+        v[i] = v[i] + c[i];
+    }
+}
+
+pub fn subtract_from(v: &mut [i16], c: &[i16])
+    requires { ⌜ (length (now v) ≡ dimension) × (length (now c) ≡ dimension) × ((k : ℕ) → natAbs (getD (now v) k (pos 0)) + natAbs (getD (now c) k (pos 0)) < 32768) ⌝ }
+    ensures { λ _. ⌜ now (v .exit) ≡ zipWith _-ℤ_ (now (v .entry)) (now (c .entry)) ⌝ }
+{
+    for i in 0..Set::DIMENSION {
+        v[i] = v[i] - c[i];
+    }
 }
