@@ -1,1 +1,3 @@
--- Laws.
+-- What the other crates cite of keys.
+pub mod Second
+pub mod Ranges

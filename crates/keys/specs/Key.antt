@@ -27,13 +27,12 @@ isResidue x = ltb x modulus
 unfoldable pub inRange : List ℤ → List ℤ → List ℕ → Bool
 inRange f g a = every isSmall f && (every isSmall g && every isResidue a)
 
-plusOne : List ℤ → List ℤ
+abbrev pub plusOne : List ℤ → List ℤ
 plusOne [] = []
 plusOne (x ∷ xs) = (x +ℤ pos 1) ∷ xs
 
 -- s2 = 2g + 1, where the 1 stands at place 0; s1 is f
 unfoldable pub second : List ℤ → List ℤ
-unfolding plusOne
 second g = plusOne (map (λ x. pos 2 *ℤ x) g)
 
 -- the squared length: the sum of the squares of s1 and s2
@@ -54,10 +53,13 @@ properKey s a s1 s2 =
 abbrev pub sized : {A : Type 0} → List A → Bool
 sized x = eqb (length x) dimension
 
--- the key test: 1, 2, 3, 7, 6
-unfoldable pub keyTest : ℕ → List ℤ → List ℤ → List ℕ → Outcome
-keyTest set f g a =
-    forSet (askedOf set) UnknownSet λ s.
+-- the key test for a set: 2, 3, 7, 6
+abbrev pub keyTestOf : Set → List ℤ → List ℤ → List ℕ → Outcome
+keyTestOf s f g a =
     must (sized f && (sized g && sized a)) WrongLength
     (must (inRange f g a) CoefficientOutside
     (properKey s a f (second g)))
+
+-- the key test: 1, 2, 3, 7, 6
+unfoldable pub keyTest : ℕ → List ℤ → List ℤ → List ℕ → Outcome
+keyTest set f g a = forSet (askedOf set) UnknownSet (λ s. keyTestOf s f g a)
