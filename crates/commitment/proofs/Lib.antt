@@ -1,1 +1,2 @@
--- Laws.
+-- What the other crates cite of the commitment.
+pub mod Sums

@@ -33,6 +33,12 @@ module _ {A B C : Type 0} (f : A → B → C) where
   zipWith-append (x ∷ xs) xs′ [] ys′ e = absurd (suc-ne-zero (length xs) e)
   zipWith-append (x ∷ xs) xs′ (y ∷ ys) ys′ e = ap (λ (l : List C). f x y ∷ l) (zipWith-append xs xs′ ys ys′ (suc-inj e))
 
+-- an entry of a mapped vector, whatever stands for no entry
+pub getD-map : {A B : Type 0} (f : A → B) (xs : List A) (k : ℕ) (a : A) (b : B) → k < length xs → getD (map f xs) k b ≡ f (getD xs k a)
+getD-map f [] k a b h = absurd (not-suc-le-zero h)
+getD-map f (x ∷ xs) zero a b h = refl
+getD-map f (x ∷ xs) (suc k) a b h = getD-map f xs k a b (le-of-suc-le-suc h)
+
 module _ {A : Type 0} where
   pub length-tabulate : (rule : ℕ → A) (n : ℕ) → length (tabulate rule n) ≡ n
   unfolding tabulate
