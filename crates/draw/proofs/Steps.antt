@@ -10,14 +10,14 @@ use Rattle.draw.specs.declared.Trial.the-variants.{Success, Failure, Sho
 use Rattle.draw.specs.declared.Ending.{Ending}
 use Rattle.draw.specs.declared.Ending.the-variants.{Accepted, Rejected, OutOfWords}
 use Rattle.draw.specs.Draw.{afterTrial, trialOf, step4, step3, step2, fromStep2, walkOf}
-use Rattle.draw.proofs.Trials.{success-within, failure-within}
+use Rattle.draw.proofs.Trials.{success-past, success-within, failure-past}
 use Rattle.draw.proofs.Rounds.{circle}
 
 module _ (words thresholds : List ℕ) where
   -- step 1
   module _ (first : ℕ) (trial : Trial) (said : trial ≡ trialOf words thresholds first 0) where
     pub first-within : (next : ℕ) → trial ≡ Success next → next ≤ length words
-    first-within next e = success-within words thresholds first 0 (omega arith) trial said next e .1
+    first-within next e = success-within words thresholds first 0 (omega arith) trial said next e
 
     module _ (x : ℕ) where
       began : walkOf first x words thresholds ≡ afterTrial trial (fromStep2 words thresholds x) Rejected OutOfWords
@@ -50,9 +50,6 @@ module _ (words thresholds : List ℕ) where
       third : whole ≡ step3 words thresholds x next (fromStep2 words thresholds x)
       third = tried ∙ rw failed
 
-      past : (at < next) × (next ≤ length words)
-      past = failure-within words thresholds x at h trial said next failed
-
       pub no-word : length words ≤ next → OutOfWords ≡ whole
       unfolding step3
       no-word k = sym (third ∙ rw (le-ltb next (length words) k))
@@ -61,9 +58,6 @@ module _ (words thresholds : List ℕ) where
         pub odd : getD words next 0 % 2 ≡ 1 → whole ≡ fromStep2 words thresholds x (next + 1)
         unfolding step3
         odd e = third ∙ simp (lt-ltb next (length words) left, eq-eqb _ _ e)
-
-        pub odd-less : length words - (next + 1) < length words - at
-        odd-less = omega (arith, past)
 
         -- step 4, after the word at `next`
         module _ (even : getD words next 0 % 2 ≡ 1 → ⊥) (retrial : Trial) (said-again : retrial ≡ trialOf words thresholds x (next + 1)) where
@@ -81,11 +75,11 @@ module _ (words thresholds : List ℕ) where
             pub resumes : whole ≡ fromStep2 words thresholds x back
             resumes = retried ∙ rw succeeded
 
-            on : (next + 1 ≤ back) × (back ≤ length words)
-            on = success-within words thresholds x (next + 1) (omega arith) retrial said-again back succeeded
-
             pub resumes-within : back ≤ length words
-            resumes-within = on .1
+            resumes-within = success-within words thresholds x (next + 1) (omega arith) retrial said-again back succeeded
 
             pub resumes-less : length words - back < length words - at
-            resumes-less = omega (arith, on, past)
+            resumes-less =
+                let p : at < next = failure-past words thresholds x at h trial said next failed in
+                let q : next + 1 ≤ back = success-past words thresholds x (next + 1) (omega arith) retrial said-again back succeeded in
+                omega arith

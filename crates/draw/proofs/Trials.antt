@@ -1,5 +1,5 @@
 -- A trial, place by place, and where it ends. Assumes nothing.
-use mathlib.Core.Path.{_≡_, refl, sym, ap, _∙_, subst}
+use mathlib.Core.Path.{_≡_, sym, ap, _∙_, subst}
 use mathlib.Core.Bool.{Bool, true, false, cond}
 use mathlib.Core.List.{List}
 use Prim.Native.Nat.{ℕ, zero, suc, _+_, _-_, _<_, _≤_}
@@ -7,7 +7,6 @@ use native.Mathlib.Omega.{arith}
 use borrow.Author.Tests.{ltb-true, lt-ltb, le-ltb}
 use lib.Dec.{ltb}
 use lib.ListN.{length, getD}
-use Rattle.laws.specs.Refusals.{must}
 use Rattle.laws.proofs.Chain.{must-cases}
 use Rattle.sets.specs.Numbers.{places}
 use Rattle.draw.specs.declared.Trial.{Trial}
@@ -43,11 +42,14 @@ module _ (words thresholds : List ℕ) where
     within : Within at trial
     within = rw said (ends places x at (Within at) h (λ _ p q. (p, q)) (λ _ p q. (p, q)) tt)
 
-    pub success-within : trial ≡ Success next → (at ≤ next) × (next ≤ length words)
-    success-within e = subst (Within at) e within
+    pub success-past : trial ≡ Success next → at ≤ next
+    success-past e = subst (Within at) e within .0
 
-    pub failure-within : trial ≡ Failure next → (at < next) × (next ≤ length words)
-    failure-within e = subst (Within at) e within
+    pub success-within : trial ≡ Success next → next ≤ length words
+    success-within e = subst (Within at) e within .1
+
+    pub failure-past : trial ≡ Failure next → at < next
+    failure-past e = subst (Within at) e within .0
 
   -- the places below `place` are left to visit
   module _ (whole : Trial) (place x at : ℕ) (so : whole ≡ trialFrom words thresholds place x at) where

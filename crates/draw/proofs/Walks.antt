@@ -22,6 +22,9 @@ module _ {ℓ} {A : Type ℓ} (ending s : Ending) (x : A) (accepted rejected : �
   pub was-short : ending ≡ OutOfWords → x ≡ short → x ≡ afterWalk s accepted rejected short
   was-short e k = rw (sym said ∙ e) k
 
+-- `search (calls, walks)` closes a return after the walk
+pub ruleset walks = (was-accepted, was-rejected, was-short)
+
 module _ (first x : ℕ) (words thresholds : List ℕ) where
   rounds-taken : (n at : ℕ) → at ≤ length words → takenOf words (rounds words thresholds n x at) ≤ length words
   unfolding rounds

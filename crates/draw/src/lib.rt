@@ -7,7 +7,7 @@ ghost use Rattle.sets.specs.Numbers.{places};
 ghost use Rattle.draw.specs.Draw.{isSet, trialOf, fromStep2, walkOf, takenOf};
 
 // How a trial ends: with the next position, or because it needed a word and none was left.
-pub enum Trial {
+enum Trial {
     Success(usize),
     Failure(usize),
     Short,
@@ -20,7 +20,8 @@ pub enum Ending {
     OutOfWords,
 }
 
-// The walk: `first` is the number of the first trial, `x` that of the others.
+// The walk. `first` is the number of the first trial, kappa K minus the squared length of v, and `x` that of the others, twice the absolute value of the inner
+// product of z and v.
 pub fn walk(first: u32, x: u32, words: &[u64], thresholds: &[u64]) -> Ending
     requires { ⌜ length (now thresholds) ≡ places ⌝ }
     ensures { λ r. ⌜ r ≡ walkOf first x (now (words .entry)) (now (thresholds .entry)) ⌝ }
@@ -80,20 +81,21 @@ fn attempt(x: u32, words: &[u64], from: usize, thresholds: &[u64]) -> Trial
     ensures { λ r. ⌜ r ≡ trialOf (now (words .entry)) (now (thresholds .entry)) x from ⌝ }
 {
     let mut place = Set::PLACES;
-    let mut at = from;
+    let mut next = from;
     loop {
         if place == 0 {
-            break Trial::Success(at);
+            break Trial::Success(next);
         }
         place -= 1;
         if is_set(x, place) {
-            if words.len() <= at {
+            if words.len() <= next {
                 break Trial::Short;
             }
-            let word = words[at];
-            at += 1;
-            if thresholds[place] <= word {
-                break Trial::Failure(at);
+            let threshold = thresholds[place];
+            let word = words[next];
+            next += 1;
+            if threshold <= word {
+                break Trial::Failure(next);
             }
         }
     }

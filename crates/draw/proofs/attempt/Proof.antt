@@ -1,4 +1,4 @@
--- `draw::attempt` meets its contract. The loop's invariant: the whole trial is the trial of the places below `place`, from the word at `at` on.
+-- `draw::attempt` meets its contract. The loop's invariant: the whole trial is the trial of the places below `place`, from the word at `next` on.
 -- Assumes nothing.
 use mathlib.Core.Path.{_≡_}
 use Prim.Native.Nat.{_≤_}
@@ -10,10 +10,10 @@ use Rattle.draw.proofs.attempt.Statement.{statement}
 use Rattle.draw.proofs.attempt.Tie as tie
 
 abbrev Inv-loop : tie.InvT-loop
-Inv-loop x words from thresholds place₀ at₀ place at = (place ≤ places) × (trialOf words thresholds x from ≡ trialFrom words thresholds place x at)
+Inv-loop x words from thresholds place₀ next₀ place next = (place ≤ places) × (trialOf words thresholds x from ≡ trialFrom words thresholds place x next)
 
 abbrev μ-loop : tie.MeasureT-loop
-μ-loop x words from thresholds place₀ at₀ place at = place
+μ-loop x words from thresholds place₀ next₀ place next = place
 
 loop-holds : tie.Need-loop-holds Inv-loop μ-loop
 loop-holds c = search needs
@@ -24,20 +24,20 @@ sub-place c = search needs
 is-set-requires : tie.Need-is-set-requires Inv-loop μ-loop
 is-set-requires c κs = search needs
 
+mul-threshold : tie.Need-mul-threshold Inv-loop μ-loop
+mul-threshold c = search needs
+
+shared-slice-read-threshold : tie.Need-shared-slice-read-threshold Inv-loop μ-loop
+shared-slice-read-threshold c = search needs
+
 mul-word : tie.Need-mul-word Inv-loop μ-loop
 mul-word c = search needs
 
 shared-slice-read-word : tie.Need-shared-slice-read-word Inv-loop μ-loop
 shared-slice-read-word c = search needs
 
-add-at : tie.Need-add-at Inv-loop μ-loop
-add-at c = search needs
-
-mul-if4 : tie.Need-mul-if4 Inv-loop μ-loop
-mul-if4 c = search needs
-
-shared-slice-read-if4 : tie.Need-shared-slice-read-if4 Inv-loop μ-loop
-shared-slice-read-if4 c = search needs
+add-next : tie.Need-add-next Inv-loop μ-loop
+add-next c = search needs
 
 loop-less : tie.Need-loop-less Inv-loop μ-loop
 loop-less c = search needs
@@ -69,11 +69,11 @@ attempt-spec =
     loop-holds
     sub-place
     is-set-requires
+    mul-threshold
+    shared-slice-read-threshold
     mul-word
     shared-slice-read-word
-    add-at
-    mul-if4
-    shared-slice-read-if4
+    add-next
     loop-less
     loop-again
     loop-less-2

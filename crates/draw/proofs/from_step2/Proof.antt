@@ -1,11 +1,13 @@
 -- `draw::from_step2` meets its contract. The loop's invariant: step 2 from `from` is step 2 from `at`, which the words hold. Each round takes a word, so the measure
 -- is the words left. Assumes nothing.
 use mathlib.Core.Path.{_≡_}
-use Prim.Native.Nat.{_-_, _≤_}
+use Prim.Native.Nat.{_-_, _<_, _≤_}
+use native.Mathlib.Omega.{arith}
 use borrow.Author.Needs.{needs}
 use lib.ListN.{length}
 use Rattle.draw.specs.Draw.{fromStep2}
-use Rattle.draw.proofs.Steps.{accepts, runs-out, no-word, odd, odd-less, rejects, runs-out-again, resumes, resumes-within, resumes-less}
+use Rattle.draw.proofs.Trials.{failure-past}
+use Rattle.draw.proofs.Steps.{accepts, runs-out, no-word, odd, rejects, runs-out-again, resumes, resumes-within, resumes-less}
 use Rattle.draw.proofs.from_step2.Statement.{statement}
 use Rattle.draw.proofs.from_step2.Tie as tie
 
@@ -40,7 +42,10 @@ add-at : tie.Need-add-at Inv-loop μ-loop
 add-at c = search needs
 
 loop-less : tie.Need-loop-less Inv-loop μ-loop
-loop-less c = search (needs, odd-less)
+loop-less c =
+    let failed = c .before .before .before in
+    let p : failed .before .before .before .before .loop .at < failed .before .next .given .0 .0 = search (needs, failure-past) in
+    omega arith
 
 loop-again : tie.Need-loop-again Inv-loop μ-loop
 loop-again c = search (needs, odd)
