@@ -67,43 +67,8 @@ fn binary_places() {
     ladder(1073741824, 0, &[31]);
     ladder(0, 1073741825, &[30, 0]);
     ladder(0, 1073741825, &[31, 0, 30, 0, 30, 1, 2, 30, 1]);
-    ladder(
-        2147483647,
-        0,
-        &[
-            30,
-            29,
-            28,
-            27,
-            26,
-            25,
-            24,
-            23,
-            22,
-            21,
-            20,
-            19,
-            18,
-            17,
-            16,
-            15,
-            14,
-            13,
-            12,
-            11,
-            10,
-            9,
-            8,
-            7,
-            6,
-            5,
-            4,
-            3,
-            2,
-            1,
-            0,
-        ],
-    );
+    level(2147483647, 0, 1, &[0; 31]);
+    level(2147483647, 0, 1, &[0; 30]);
 }
 
 // A walk of 18 words and one of 16, each through every step: they run out at each smaller count, and leave words to spare.
