@@ -1,13 +1,11 @@
 // The commitment (01, "Commitment"), and the sums that the response and the rebuild round too.
 ghost use mathlib.Core.Path.{_≡_};
-ghost use mathlib.Core.Bool.{_&&_};
 ghost use mathlib.Core.List.{map};
 ghost use lib.ListN.{length};
 ghost use Rattle.laws.specs.Lists.{every, zipWith};
 ghost use Rattle.sets.specs.Numbers.{dimension, twiceModulus};
 ghost use Rattle.answers.specs.Outcomes.{filled};
 ghost use Rattle.rounding.specs.Rounding.{upper, summed};
-ghost use Rattle.keys.specs.Key.{sized};
 ghost use Rattle.commitment.specs.Commitment.{isReduced, areMasks, sums, committed, commitment as commitmentOf, commitmentFor};
 use answers::Outcome;
 use sets::Asked;
@@ -26,7 +24,7 @@ pub fn commitment(set: u32, a: &[u16], y1: &[i16], y2: &[i16], out: &mut [u16]) 
 fn commitment_for(s: Set, a: &[u16], y1: &[i16], y2: &[i16], out: &mut [u16]) -> Outcome
     ensures { λ r. ⌜ filled r (now (out .exit)) ≡ commitmentFor s (now (a .entry)) (now (y1 .entry)) (now (y2 .entry)) (now (out .entry)) ⌝ }
 {
-    if !all_sized(a, y1, y2, out) {
+    if !vectors::four_sized(a.len(), y1.len(), y2.len(), out.len()) {
         return Outcome::WrongLength;
     }
     if !vectors::all_below(a, Set::MODULUS as u16) {
@@ -37,21 +35,6 @@ fn commitment_for(s: Set, a: &[u16], y1: &[i16], y2: &[i16], out: &mut [u16]) ->
     }
     commit(s, a, y1, y2, out);
     Outcome::Done
-}
-
-fn all_sized(a: &[u16], y1: &[i16], y2: &[i16], out: &[u16]) -> bool
-    ensures { λ r. ⌜ r ≡ sized (now (a .entry)) && (sized (now (y1 .entry)) && (sized (now (y2 .entry)) && sized (now (out .entry)))) ⌝ }
-{
-    if a.len() != Set::DIMENSION {
-        return false;
-    }
-    if y1.len() != Set::DIMENSION {
-        return false;
-    }
-    if y2.len() != Set::DIMENSION {
-        return false;
-    }
-    out.len() == Set::DIMENSION
 }
 
 // Whether both masks have their coefficients in -4,096 .. 4,096.

@@ -15,6 +15,18 @@ use Rattle.keys.specs.Key.{isSmall, isResidue, inRange, sized}
 pub sized-is : {A : Type 0} (x : List A) → sized x ≡ true → length x ≡ dimension
 sized-is x e = eqb-true (length x) dimension e
 
+pub sized-three : {A B C : Type 0} (x : List A) (y : List B) (z : List C) → sized x && (sized y && sized z) ≡ true
+    → (length x ≡ dimension) × (length y ≡ dimension) × (length z ≡ dimension)
+sized-three x y z e =
+    let r = and-right (sized x) _ e in
+    (sized-is x (and-left (sized x) _ e), sized-is y (and-left (sized y) _ r), sized-is z (and-right (sized y) _ r))
+
+pub sized-four : {A B C D : Type 0} (w : List A) (x : List B) (y : List C) (z : List D) → sized w && (sized x && (sized y && sized z)) ≡ true
+    → (length w ≡ dimension) × (length x ≡ dimension) × (length y ≡ dimension) × (length z ≡ dimension)
+sized-four w x y z e =
+    let r = sized-three x y z (and-right (sized w) _ e) in
+    (sized-is w (and-left (sized w) _ e), r .0, r .1, r .2)
+
 module _ (f g : List ℤ) (a : List ℕ) (e : inRange f g a ≡ true) where
   pub f-small : every isSmall f ≡ true
   unfolding inRange

@@ -1,6 +1,6 @@
 // The key test (01, "Key"). What the response asks of a key is public too: it prepares the same vectors.
 ghost use mathlib.Core.Path.{_≡_};
-ghost use mathlib.Core.Bool.{true, _&&_};
+ghost use mathlib.Core.Bool.{true};
 ghost use mathlib.Core.List.{map};
 ghost use Prim.Native.Nat.{_<_};
 ghost use lib.IntN.{natAbs};
@@ -12,7 +12,7 @@ ghost use Rattle.sets.specs.Numbers.{dimension, modulus};
 ghost use Rattle.answers.specs.declared.Outcome.the-variants.{CoefficientOutside};
 ghost use Rattle.vectors.specs.Vectors.{within};
 ghost use Rattle.ring.specs.Spectrum.{spectrumOf};
-ghost use Rattle.keys.specs.Key.{inRange, second, properKey, sized, keyTest, keyTestOf};
+ghost use Rattle.keys.specs.Key.{inRange, second, properKey, keyTest, keyTestOf};
 use answers::Outcome;
 use sets::Asked;
 use sets::Set;
@@ -30,22 +30,10 @@ pub fn key_test(set: u32, f: &[i8], g: &[i8], a: &[u16]) -> Outcome
 fn key_test_of(s: Set, f: &[i8], g: &[i8], a: &[u16]) -> Outcome
     ensures { λ r. ⌜ r ≡ keyTestOf s (now (f .entry)) (now (g .entry)) (now (a .entry)) ⌝ }
 {
-    if !key_sized(f, g, a) {
+    if !vectors::three_sized(f.len(), g.len(), a.len()) {
         return Outcome::WrongLength;
     }
     examine(s, f, g, a)
-}
-
-pub fn key_sized(f: &[i8], g: &[i8], a: &[u16]) -> bool
-    ensures { λ r. ⌜ r ≡ sized (now (f .entry)) && (sized (now (g .entry)) && sized (now (a .entry))) ⌝ }
-{
-    if f.len() != Set::DIMENSION {
-        return false;
-    }
-    if g.len() != Set::DIMENSION {
-        return false;
-    }
-    a.len() == Set::DIMENSION
 }
 
 // The vectors s1 and s2 are made here, and the key's transform.

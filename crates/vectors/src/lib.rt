@@ -2,9 +2,10 @@
 // A vector of bytes is widened first: everything else is for i16 alone. Sums and copies are loops with a fixed count and no branch, which the compiler
 // turns into instructions on several entries at a time.
 ghost use mathlib.Core.Path.{_≡_};
-ghost use mathlib.Core.Bool.{true};
+ghost use mathlib.Core.Bool.{true, _&&_};
 ghost use mathlib.Core.List.{map};
 ghost use Prim.Native.Nat.{ℕ, _+_, _*_, _^_, _<_};
+ghost use lib.Dec.{eqb};
 ghost use lib.IntN.{pos, negℤ, natAbs, _+ℤ_, _-ℤ_, _*ℤ_};
 ghost use lib.ListN.{length, getD};
 ghost use Rattle.laws.specs.Lists.{every, zipWith};
@@ -12,6 +13,30 @@ ghost use Rattle.sets.specs.Numbers.{dimension};
 ghost use Rattle.vectors.specs.Vectors.{within, below, squares, inner, sizes, mirrored};
 ghost use Rattle.vectors.specs.Places.{rising, properList};
 use sets::Set;
+
+// ---- lengths
+
+// Whether three, or four, lengths are 512.
+pub fn three_sized(x: usize, y: usize, z: usize) -> bool
+    ensures { λ r. ⌜ r ≡ eqb x dimension && (eqb y dimension && eqb z dimension) ⌝ }
+{
+    if x != Set::DIMENSION {
+        return false;
+    }
+    if y != Set::DIMENSION {
+        return false;
+    }
+    z == Set::DIMENSION
+}
+
+pub fn four_sized(w: usize, x: usize, y: usize, z: usize) -> bool
+    ensures { λ r. ⌜ r ≡ eqb w dimension && (eqb x dimension && (eqb y dimension && eqb z dimension)) ⌝ }
+{
+    if w != Set::DIMENSION {
+        return false;
+    }
+    three_sized(x, y, z)
+}
 
 // ---- the form of a list
 
