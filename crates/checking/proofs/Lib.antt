@@ -1,1 +1,3 @@
--- Laws.
+-- What the other crates cite of checking.
+pub mod Marks
+pub mod Admitted

@@ -30,20 +30,26 @@ marks l = tabulate (λ k. cond (listed l k) (pos modulus) (pos 0)) dimension
 unfoldable pub rebuilt : Set → List ℕ → List ℤ → List ℤ → List ℕ → List ℕ
 rebuilt s a z1 z2 l = zipWith (restored s) (sums a z1 (marks l)) z2
 
--- the rebuild: 1, 2, 3, 5, 10, 11; `out` is what the output vector held before
-unfoldable pub rebuild : ℕ → List ℕ → List ℤ → List ℤ → List ℕ → List ℕ → Filled
-rebuild set a z1 z2 l out =
-    forSet (askedOf set) (filled UnknownSet out) λ s.
+-- the rebuild for a set: 2, 3, 5, 10, 11; `out` is what the output vector held before
+abbrev pub rebuildFor : Set → List ℕ → List ℤ → List ℤ → List ℕ → List ℕ → Filled
+rebuildFor s a z1 z2 l out =
     must (sized a && (sized z1 && (sized z2 && sized out))) (filled WrongLength out)
     (must (every isResidue a) (filled CoefficientOutside out)
     (must (properList s l) (filled ImproperList out)
     (unless (lengthRule s z1 z2) (λ o. filled o out)
     (filled Done (rebuilt s a z1 z2 l)))))
 
--- the comparison: 1, 5, 12
-unfoldable pub comparison : ℕ → List ℕ → List ℕ → Outcome
-comparison set claimed hashed =
-    forSet (askedOf set) UnknownSet λ s.
+-- the rebuild: 1, 2, 3, 5, 10, 11
+unfoldable pub rebuild : ℕ → List ℕ → List ℤ → List ℤ → List ℕ → List ℕ → Filled
+rebuild set a z1 z2 l out = forSet (askedOf set) (filled UnknownSet out) (λ s. rebuildFor s a z1 z2 l out)
+
+-- the comparison for a set: 5, 12
+abbrev pub comparisonFor : Set → List ℕ → List ℕ → Outcome
+comparisonFor s claimed hashed =
     must (properList s claimed && properList s hashed) ImproperList
     (must (same claimed hashed) ListsDiffer
     Done)
+
+-- the comparison: 1, 5, 12
+unfoldable pub comparison : ℕ → List ℕ → List ℕ → Outcome
+comparison set claimed hashed = forSet (askedOf set) UnknownSet (λ s. comparisonFor s claimed hashed)

@@ -56,7 +56,7 @@ module _ (l : tie.At-loop Inv-loop μ-loop) where
   small = leb-true _ _ (every-anywhere (within 5) S (l .loop .i) (pos 0) (l .before .before .pre .2) refl)
 
 residue-requires : tie.Need-residue-requires Inv-loop μ-loop
-residue-requires c κs = 
+residue-requires c κs =
     let l = c .before .before .before in
     rw (element w16 (getD (S l) (l .loop .i) (pos 0)) (c .residue-arg .given) .back) (omega (arith, small l))
 

@@ -56,7 +56,7 @@ returns : tie.Need-returns
 unfolding properKey
 returns c =
     let e : leb (keyLength (s1 (c .before)) (s2 (c .before))) (keyLimitOf (s (c .before))) ≡ false =
-      lt-leb (keyLength (s1 (c .before)) (s2 (c .before))) (keyLimitOf (s (c .before))) (omega (arith, whole (c .before), limit (c .before))) in
+    lt-leb (keyLength (s1 (c .before)) (s2 (c .before))) (keyLimitOf (s (c .before))) (omega (arith, whole (c .before), limit (c .before))) in
     rw e
 
 slice-aggregate-multiply : tie.Need-slice-aggregate-multiply
