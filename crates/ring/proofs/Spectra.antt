@@ -7,17 +7,22 @@ use Prim.Native.Nat.{ℕ, zero, suc, _+_, _-_, _/_, _%_, _<_, _≤_}
 use native.Mathlib.Omega.{arith}
 use borrow.Author.Tests.{eqb-true}
 use lib.Dec.{eqb, lit<}
-use lib.ListN.{length, take, drop, length-append, length-drop, length-map, take-append-drop}
+use lib.IntN.{ℤ}
+use lib.ListN.{length, take, drop, getD, replicate, length-append, length-drop, length-map, take-append-drop}
 use lib.Seq.{length-take-le, take-at, drop-at}
+use Rattle.laws.specs.Integers.{residue}
 use Rattle.laws.specs.Lists.{zipWith}
 use Rattle.laws.proofs.Chain.{and-left, and-right}
+use Rattle.laws.proofs.Congruence.{residue-lt}
 use Rattle.sets.specs.Numbers.{modulus}
-use Rattle.polynomials.specs.Field.{add, mul}
+use Rattle.polynomials.specs.Field.{add, mul, turnMod, fieldProduct}
+use Rattle.polynomials.specs.Product.{product}
+use Rattle.polynomials.proofs.Residues.{product-residues}
 use Rattle.ring.specs.Powers.{power}
-use Rattle.ring.specs.Transform.{sub, Within, productModulo, plus, minus, low, high, size, remainders, spectrumOf, back, joined, convolution}
+use Rattle.ring.specs.Transform.{sub, Within, turn, productModulo, plus, minus, low, high, size, remainders, spectrumOf, back, joined, convolution}
 use Rattle.ring.proofs.Field as F
 use Rattle.ring.proofs.Field.{field}
-use Rattle.ring.proofs.Zips.{within-zipWith, within-append, both-joins, join-first, join-second, zipWith-alike, map-same}
+use Rattle.ring.proofs.Zips.{within-zipWith, within-map, within-append, both-joins, join-first, join-second, zipWith-alike, map-same}
 use Rattle.ring.proofs.Products.{length-product, within-product, length-low, remainder-product, high-low}
 
 pub positive : (k : ℕ) → 0 < size k
@@ -62,14 +67,10 @@ within-joined v l r =
     within-append 12288 (zipWith add l r) (zipWith (back v) l r)
     (within-zipWith 12288 add F.add-le l r) (within-zipWith 12288 (back v) (λ x y. F.mul-le v (sub y x)) l r)
 
-within-convolution : (k e : ℕ) (f g : List ℕ) → Within 12288 (convolution k e f g)
+pub within-convolution : (k e : ℕ) (f g : List ℕ) → Within 12288 (convolution k e f g)
 unfolding convolution
 within-convolution zero e f g = within-product (power e) f g
 within-convolution (suc k) e f g = within-joined (power (512 - e / 2)) _ _
-
--- as a call leaves it
-pub within-convolved : (k e : ℕ) (f g r : List ℕ) → r ≡ convolution k e f g → Within 12288 r
-within-convolved k e f g r is = rw is (within-convolution k e f g)
 
 -- ---- joining what was split
 
@@ -166,3 +167,37 @@ whole f g lf lg =
     ap (map (mul 12097)) (convolution-is 6 512 f g refl (lit< tt) lf lg ∙ ap (λ (w : ℕ). map (mul 64) (productModulo w f g)) F.power-512)
     ∙ map-map (mul 12097) (mul 64) (productModulo 12288 f g)
     ∙ map-same 12288 (λ x. mul 12097 (mul 64 x)) scaled-back (productModulo 12288 f g) (within-product 12288 f g)
+
+-- ---- the spectrum of a key
+
+pub length-spectrum : (a : List ℕ) → length a ≡ 512 → length (spectrumOf a) ≡ 512
+unfolding spectrumOf size
+length-spectrum a e = length-remainders 6 512 (map (λ x. x % modulus) a) (length-map a (λ x. x % modulus) ∙ e)
+
+pub within-residues : (a : List ℕ) → Within 12288 (map (λ x. x % modulus) a)
+within-residues a = within-map 12288 (λ x. x % modulus) (λ x. omega arith) a
+
+pub within-signed-residues : (z : List ℤ) → Within 12288 (map (residue modulus) z)
+within-signed-residues z = within-map 12288 (residue modulus) (λ x. omega (arith, residue-lt {m = modulus} (lit< tt) x)) z
+
+pub within-spectrum : (a : List ℕ) → Within 12288 (spectrumOf a)
+unfolding spectrumOf
+within-spectrum a = within-remainders 6 512 (map (λ x. x % modulus) a) (within-residues a)
+
+-- the product modulo x^512 + 1, in the form of `polynomials`
+field-product : (f g : List ℕ) → length g ≡ 512 → productModulo 12288 f g ≡ fieldProduct f g
+unfolding productModulo fieldProduct turn turnMod
+field-product [] g e = ap (λ (n : ℕ). replicate n 0) e
+field-product (a ∷ f) g e =
+    let P = productModulo 12288 f g in
+    ap (λ (n : ℕ). zipWith (λ y z. add (mul a y) z) g (mul 12288 (getD P (n - 1) 0) ∷ take (n - 1) P)) (length-product 12288 f g (omega arith) ∙ e)
+    ∙ ap (λ (p : List ℕ). zipWith (λ y z. add (mul a y) z) g (turnMod p)) (field-product f g e)
+
+pub product-is : (a : List ℕ) (z : List ℤ) → length a ≡ 512 → length z ≡ 512
+    → map (mul 12097) (convolution 6 512 (spectrumOf a) (map (residue modulus) z)) ≡ product a z
+unfolding spectrumOf
+product-is a z la lz =
+    let f = map (λ x. x % modulus) a in
+    let g = map (residue modulus) z in
+    let lg : length g ≡ 512 = length-map z (residue modulus) ∙ lz in
+    whole f g (length-map a (λ x. x % modulus) ∙ la) lg ∙ field-product f g lg ∙ sym (product-residues a z la lz)

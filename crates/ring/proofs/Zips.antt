@@ -12,6 +12,9 @@ use Rattle.ring.specs.Transform.{Within}
 
 -- ---- bounds
 
+pub within-of : {b : ℕ} (r l : List ℕ) → r ≡ l → Within b l → Within b r
+within-of r l e h = rw e h
+
 pub within-zipWith : (b : ℕ) (f : ℕ → ℕ → ℕ) → ((x y : ℕ) → f x y ≤ b) → (xs ys : List ℕ) → Within b (zipWith f xs ys)
 unfolding zipWith
 within-zipWith b f h [] ys i = omega arith
@@ -19,7 +22,7 @@ within-zipWith b f h (x ∷ xs) [] i = omega arith
 within-zipWith b f h (x ∷ xs) (y ∷ ys) zero = h x y
 within-zipWith b f h (x ∷ xs) (y ∷ ys) (suc i) = within-zipWith b f h xs ys i
 
-pub within-map : (b : ℕ) (f : ℕ → ℕ) → ((x : ℕ) → f x ≤ b) → (xs : List ℕ) → Within b (map f xs)
+pub within-map : {A : Type 0} (b : ℕ) (f : A → ℕ) → ((x : A) → f x ≤ b) → (xs : List A) → Within b (map f xs)
 within-map b f h [] i = omega arith
 within-map b f h (x ∷ xs) zero = h x
 within-map b f h (x ∷ xs) (suc i) = within-map b f h xs i

@@ -1,5 +1,10 @@
 // The product of a public key and a signed vector, modulo 12289 and x^512 + 1 (01, "Ring arithmetic").
-mod powers;
+mod table;
+
+use table::POWERS;
+use sets::Set;
+
+const MODULUS: u16 = Set::MODULUS as u16;
 
 ghost use mathlib.Core.Path.{_≡_};
 ghost use mathlib.Core.List.{_∷_, _++_, map};
@@ -20,10 +25,10 @@ fn sum(x: u16, y: u16) -> u16
     ensures { λ r. ⌜ r ≡ add x y ⌝ }
 {
     let s = x + y;
-    if s < 12289 {
+    if s < MODULUS {
         s
     } else {
-        s - 12289
+        s - MODULUS
     }
 }
 
@@ -44,7 +49,7 @@ fn ratio(w: u16) -> u16
     requires { ⌜ w < modulus ⌝ }
     ensures { λ r. ⌜ r ≡ w * 65536 / modulus ⌝ }
 {
-    ((w as u32) * 65536 / 12289) as u16
+    ((w as u32) * 65536 / Set::MODULUS) as u16
 }
 
 // w y, where ratio is that of w. What is left of w y after ratio y / 2^16 times q is below 2q.
@@ -168,4 +173,85 @@ fn convolve(s: &mut [u16], f: &[u16], k: usize, e: usize, powers: &[u16])
     } else {
         block(s, f, powers[e]);
     }
+}
+
+// ---- the product
+
+fn residues(s: &mut [u16], a: &[u16])
+    requires { ⌜ (length (now s) ≡ dimension) × (length (now a) ≡ dimension) ⌝ }
+    ensures { λ _. ⌜ now (s .exit) ≡ map (λ x. x % modulus) (now (a .entry)) ⌝ }
+{
+    let mut i = 0;
+    while i < Set::DIMENSION {
+        s[i] = a[i] % MODULUS;
+        i += 1;
+    }
+}
+
+// The least i16 is above -3q.
+fn signed_residue(z: i16) -> u16
+    ensures { λ r. ⌜ r ≡ residue modulus z ⌝ }
+{
+    (((z as i32) + 36867) as u32 % Set::MODULUS) as u16
+}
+
+fn signed_residues(s: &mut [u16], z: &[i16])
+    requires { ⌜ (length (now s) ≡ dimension) × (length (now z) ≡ dimension) ⌝ }
+    ensures { λ _. ⌜ now (s .exit) ≡ map (residue modulus) (now (z .entry)) ⌝ }
+{
+    let mut i = 0;
+    while i < Set::DIMENSION {
+        s[i] = signed_residue(z[i]);
+        i += 1;
+    }
+}
+
+// s divided by 64: 12097 times 64 is 1.
+fn rescale(s: &mut [u16])
+    requires { ⌜ length (now s) ≡ dimension ⌝ }
+    ensures { λ _. ⌜ now (s .exit) ≡ map (mul 12097) (now (s .entry)) ⌝ }
+{
+    let r = ratio(12097);
+    let mut i = 0;
+    while i < Set::DIMENSION {
+        s[i] = scaled(12097, r, s[i]);
+        i += 1;
+    }
+}
+
+fn powers() -> [u16; 1024]
+    ensures { λ r. ⌜ Powers r ⌝ }
+{
+    POWERS
+}
+
+// The spectrum of a key, by which it is multiplied.
+pub fn transform_key(a: &[u16], spectrum: &mut [u16])
+    requires { ⌜ (length (now a) ≡ dimension) × (length (now spectrum) ≡ dimension) ⌝ }
+    ensures { λ _. ⌜ now (spectrum .exit) ≡ spectrumOf (now (a .entry)) ⌝ }
+{
+    let table = powers();
+    residues(spectrum, a);
+    decompose(spectrum, 6, 512, &table);
+}
+
+// The product of the key a, of which the spectrum is given, and z. The key itself stands here for the contract alone.
+pub fn multiply(a: &[u16], spectrum: &[u16], z: &[i16], out: &mut [u16])
+    requires { ⌜ (length (now a) ≡ dimension) × (length (now z) ≡ dimension) × (length (now out) ≡ dimension) × (now spectrum ≡ spectrumOf (now a)) ⌝ }
+    ensures { λ _. ⌜ now (out .exit) ≡ product (now (a .entry)) (now (z .entry)) ⌝ }
+{
+    let table = powers();
+    signed_residues(out, z);
+    convolve(out, spectrum, 6, 512, &table);
+    rescale(out);
+}
+
+// The product of the key a and z.
+pub fn key_product(a: &[u16], z: &[i16], out: &mut [u16])
+    requires { ⌜ (length (now a) ≡ dimension) × (length (now z) ≡ dimension) × (length (now out) ≡ dimension) ⌝ }
+    ensures { λ _. ⌜ now (out .exit) ≡ product (now (a .entry)) (now (z .entry)) ⌝ }
+{
+    let mut spectrum = [0u16; Set::DIMENSION];
+    transform_key(a, &mut spectrum);
+    multiply(a, &spectrum, z, out);
 }

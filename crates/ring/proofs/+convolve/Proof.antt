@@ -9,8 +9,8 @@ use borrow.Fn.Kinds.{In}
 use borrow.Fn.PlainCycle.{Measures, is, falls, and}
 use borrow.Rule.Slice.PartMut.{putMid}
 use Rattle.ring.specs.Transform.{Within, productModulo, size, convolution, joined}
-use Rattle.ring.proofs.Zips.{within-append, within-take, within-drop}
-use Rattle.ring.proofs.Spectra.{within-convolved}
+use Rattle.ring.proofs.Zips.{within-of, within-append, within-take, within-drop}
+use Rattle.ring.proofs.Spectra.{within-convolution}
 use Rattle.ring.proofs.Halves.{still-two, second-half, both-back, back-two}
 use Rattle.ring.proofs.Layers.{length-powers, power-at, power-small, halved, within-first, within-second, convolution-layer, convolution-leaf, size-leaf}
 use Rattle.ring.proofs.convolve.Reads as convolve
@@ -131,7 +131,7 @@ module _ (t : ℕ) where
     back-small : Within 12288 back
     back-small =
         rw back-is
-        (within-append 12288 (m first) n (within-convolved _ _ _ _ (m first) (first .convolve .ensures)) (within-convolved _ _ _ _ n (c .convolve2 .ensures)))
+        (within-append 12288 (m first) n (within-of (m first) _ (first .convolve .ensures) (within-convolution _ _ _ _)) (within-of n _ (c .convolve2 .ensures) (within-convolution _ _ _ _)))
 
   mul-split : lts.Need-mul-split (known t) (at t) convolve.Post
   mul-split c = omega arith
