@@ -24,3 +24,14 @@ estimated w r y is h =
     let rest-small : rest ≤ 12288 = omega arith in
     let small : rest * y ≤ 805294080 = mul-le-mul rest-small h in
     (omega arith, omega arith)
+
+-- a difference that is small shows in the last 16 bits
+pub seen : (a b : ℕ) → b ≤ a → a < b + 24578 → (a % 65536 + 65536 - b % 65536) % 65536 ≡ a - b
+seen a b p q = omega arith
+
+-- what is left of p with k times q taken off is its residue, or that and q
+pub residue-left : (p k left : ℕ) → left ≡ p - k * modulus → k * modulus ≤ p → left < modulus → left ≡ p % modulus
+residue-left p k left e h l = omega arith
+
+pub residue-over : (p k left : ℕ) → left ≡ p - k * modulus → p < k * modulus + 24578 → modulus ≤ left → left - modulus ≡ p % modulus
+residue-over p k left e h l = omega arith

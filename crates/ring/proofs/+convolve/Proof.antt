@@ -163,10 +163,17 @@ module _ (t : ℕ) where
   convolve-requires : lts.Need-convolve-requires (known t) (at t) convolve.Post
   convolve-requires c κs =
       let split = c .before .before .before .before in
-      let then = then split in
-      (omega (arith, then .if1 .taken),
-      (length-take-le (h then) (s split) (omega (arith, two split)) ∙ halves then .0, length-take-le (h then) (key then) (omega (arith, key-two then)) ∙ halves then .0,
-      omega (arith, exponent then), start then .pre .1 .3, first-small split, within-take 12288 (h then) (key then) (start then .pre .1 .5)))
+      let then = then split in (
+        omega (arith, then .if1 .taken),
+        (
+          length-take-le (h then) (s split) (omega (arith, two split)) ∙ halves then .0,
+          length-take-le (h then) (key then) (omega (arith, key-two then)) ∙ halves then .0,
+          omega (arith, exponent then),
+          start then .pre .1 .3,
+          first-small split,
+          within-take 12288 (h then) (key then) (start then .pre .1 .5),
+        ),
+      )
 
   mul-convolve : lts.Need-mul-convolve (known t) (at t) convolve.Post
   mul-convolve c = omega arith
@@ -202,10 +209,17 @@ module _ (t : ℕ) where
   convolve-requires-2 c κs =
       let first = c .before .before .before .before in
       let split = split first in
-      let then = then split in
-      (omega (arith, then .if1 .taken),
-      (ap length (lent first) ∙ length-drop (h then) (s split) ∙ omega (arith, two split) ∙ halves then .0, ap length (key-lent then) ∙ key-rest then,
-      omega (arith, exponent then), start then .pre .1 .3, rw (lent first) (second-small split), rw (key-lent then) (within-drop 12288 (h then) (key then) (start then .pre .1 .5))))
+      let then = then split in (
+        omega (arith, then .if1 .taken),
+        (
+          ap length (lent first) ∙ length-drop (h then) (s split) ∙ omega (arith, two split) ∙ halves then .0,
+          ap length (key-lent then) ∙ key-rest then,
+          omega (arith, exponent then),
+          start then .pre .1 .3,
+          rw (lent first) (second-small split),
+          rw (key-lent then) (within-drop 12288 (h then) (key then) (start then .pre .1 .5)),
+        ),
+      )
 
   sub-join : lts.Need-sub-join (known t) (at t) convolve.Post
   sub-join c = omega (arith, exponent (then (split (first (c .before .before .before)))))

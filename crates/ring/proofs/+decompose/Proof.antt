@@ -130,9 +130,10 @@ module _ (t : ℕ) where
       let first = c .before .before .before in
       let split = split first in
       let then = then split in
-      let lent = second-half (h then) (s split) (m first) (two split) (as-long first) in
-      (omega (arith, then .if1 .taken),
-      (ap length lent ∙ length-drop (h then) (s split) ∙ omega (arith, two split) ∙ halves then .0, omega (arith, start then .pre .1 .1), start then .pre .1 .2, rw lent (second-small split)))
+      let lent = second-half (h then) (s split) (m first) (two split) (as-long first) in (
+        omega (arith, then .if1 .taken),
+        (ap length lent ∙ length-drop (h then) (s split) ∙ omega (arith, two split) ∙ halves then .0, omega (arith, start then .pre .1 .1), start then .pre .1 .2, rw lent (second-small split)),
+      )
 
   same-length : lts.Need-same-length (known t) (at t) decompose.Post
   same-length c =

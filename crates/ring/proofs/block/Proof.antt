@@ -80,9 +80,10 @@ module _ (c : tie.In-loop Inv-loop μ-loop) where
 row-requires : tie.Need-row-requires Inv-loop μ-loop
 row-requires c κs =
     let at = c .before .before .before in
-    let s = start at in
-    ((rw (lent at) (omega (arith, long at, length-drop (i at) (at .before .loop .c))), s .pre .0, omega (arith, s .pre .4 (i at)), s .pre .2, s .pre .3),
-    rw (lent at) (room (s .args .w) (s .args .f .now) (s .args .s .now) (omega arith) (s .pre .1) (s .pre .0) (s .pre .4) (s .pre .3) (so at) (below at)))
+    let s = start at in (
+      (rw (lent at) (omega (arith, long at, length-drop (i at) (at .before .loop .c))), s .pre .0, omega (arith, s .pre .4 (i at)), s .pre .2, s .pre .3),
+      rw (lent at) (room (s .args .w) (s .args .f .now) (s .args .s .now) (omega arith) (s .pre .1) (s .pre .0) (s .pre .4) (s .pre .3) (so at) (below at)),
+    )
 
 loop-less : tie.Need-loop-less Inv-loop μ-loop
 loop-less c = omega arith
@@ -94,12 +95,13 @@ loop-again c =
     let n = c .before .row .last .0 in
     let l = at .before .loop .c in
     let ln : length n ≡ length (take (16 - i at) (drop (i at) l)) = c .before .row .kept .0 in
-    let ln′ : length n ≡ 16 - i at = ln ∙ ap length (lent at) ∙ omega (arith, long at, length-drop (i at) l) in
-    (omega arith,
-    more (s .args .w) (s .args .f .now) (s .args .s .now) (omega arith) (s .pre .1) (s .pre .0) (s .pre .4) (s .pre .3) (so at) (below at)
-    (putMid (i at) (16 - i at) l n) (same-len-mid (i at) (16 - i at) l n ln ∙ long at)
-    (part-back (i at) l n (long at) (below at) ln′ ∙ c .before .row .ensures
-    ∙ ap (λ (r : List ℕ). grown (s .args .w) (getD (s .args .f .now) (i at) 0) (s .args .s .now) (getD r 8 0) (take 7 (drop 1 r))) (lent at)))
+    let ln′ : length n ≡ 16 - i at = ln ∙ ap length (lent at) ∙ omega (arith, long at, length-drop (i at) l) in (
+      omega arith,
+      more (s .args .w) (s .args .f .now) (s .args .s .now) (omega arith) (s .pre .1) (s .pre .0) (s .pre .4) (s .pre .3) (so at) (below at)
+          (putMid (i at) (16 - i at) l n) (same-len-mid (i at) (16 - i at) l n ln ∙ long at)
+          (part-back (i at) l n (long at) (below at) ln′ ∙ c .before .row .ensures
+          ∙ ap (λ (r : List ℕ). grown (s .args .w) (getD (s .args .f .now) (i at) 0) (s .args .s .now) (getD r 8 0) (take 7 (drop 1 r))) (lent at)),
+    )
 
 slice-aggregate-reduce : tie.Need-slice-aggregate-reduce Inv-loop μ-loop
 slice-aggregate-reduce c = omega (arith, c .before .before .before .loop .inv .1 .long)

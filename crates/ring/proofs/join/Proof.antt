@@ -73,10 +73,11 @@ loop-less c = omega arith
 
 loop-again : tie.Need-loop-again Inv-loop μ-loop
 loop-again c =
-    let p = c .before .before .before .before in
-    (omega arith,
-    more _ _ _ _ (p .before .before .before .before .before .pre .0) (p .before .before .loop .inv .1) (p .before .loop-test .taken) _ _
-    (c .before .before .sum .ensures) (c .scaled .ensures ∙ ap (mul _) (c .before .difference .ensures)))
+    let p = c .before .before .before .before in (
+      omega arith,
+      more _ _ _ _ (p .before .before .before .before .before .pre .0) (p .before .before .loop .inv .1) (p .before .loop-test .taken) _ _
+          (c .before .before .sum .ensures) (c .scaled .ensures ∙ ap (mul _) (c .before .difference .ensures)),
+    )
 
 same-length : tie.Need-same-length Inv-loop μ-loop
 same-length c = c .before .loop .inv .1 .long

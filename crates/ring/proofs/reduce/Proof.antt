@@ -55,10 +55,11 @@ loop-again : tie.Need-loop-again Inv-loop μ-loop
 loop-again c =
     let at = c .before .before in
     let l = at .before .args .c .now in
-    let i = at .loop .i in
-    (omega arith,
-    more _ _ (same (at .before)) (at .loop .inv .1) 0 _ (omega arith)
-    (sym (List·getD-map (λ x. x % modulus) (take 8 l) i 0 ∙ ap (λ (x : ℕ). x % modulus) (getD-take 8 l i 0 (c .before .loop-test .taken)))))
+    let i = at .loop .i in (
+      omega arith,
+      more _ _ (same (at .before)) (at .loop .inv .1) 0 _ (omega arith)
+          (sym (List·getD-map (λ x. x % modulus) (take 8 l) i 0 ∙ ap (λ (x : ℕ). x % modulus) (getD-take 8 l i 0 (c .before .loop-test .taken)))),
+    )
 
 same-length : tie.Need-same-length Inv-loop μ-loop
 same-length c = c .before .loop .inv .1 .long

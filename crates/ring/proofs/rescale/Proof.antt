@@ -54,10 +54,11 @@ loop-again : tie.Need-loop-again Inv-loop μ-loop
 unfolding mul
 loop-again c =
     let at = c .before .before .before in
-    let l = at .before .before .before .args .s .now in
-    (omega arith,
-    more _ _ (same l) (at .loop .inv .1) 0 _ (omega arith)
-    (c .scaled .ensures ∙ ap (mul 12097) (next-is _ _ (same l) (at .loop .inv .1) 0 (omega arith)) ∙ sym (List·getD-map (mul 12097) l (at .loop .i) 0)))
+    let l = at .before .before .before .args .s .now in (
+      omega arith,
+      more _ _ (same l) (at .loop .inv .1) 0 _ (omega arith)
+          (c .scaled .ensures ∙ ap (mul 12097) (next-is _ _ (same l) (at .loop .inv .1) 0 (omega arith)) ∙ sym (List·getD-map (mul 12097) l (at .loop .i) 0)),
+    )
 
 same-length : tie.Need-same-length Inv-loop μ-loop
 same-length c = c .before .loop .inv .1 .long

@@ -45,9 +45,10 @@ loop-less c = omega arith
 
 loop-again : tie.Need-loop-again Inv-loop μ-loop
 loop-again c =
-    let at = c .before .before in
-    (omega arith,
-    more _ _ (same (at .before)) (at .loop .inv .1) 0 _ (omega arith) (sym (List·getD-map (λ x. x % modulus) (at .before .args .a .now) (at .loop .i) 0)))
+    let at = c .before .before in (
+      omega arith,
+      more _ _ (same (at .before)) (at .loop .inv .1) 0 _ (omega arith) (sym (List·getD-map (λ x. x % modulus) (at .before .args .a .now) (at .loop .i) 0)),
+    )
 
 same-length : tie.Need-same-length Inv-loop μ-loop
 same-length c = c .before .loop .inv .1 .long

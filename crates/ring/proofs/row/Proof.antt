@@ -125,12 +125,14 @@ loop-again c =
     let at = in-loop .before in
     let start = first in-loop in
     let i = at .loop .i in
-    let l8 = length-take-le 8 (set-list start) (rw length-set (omega arith)) in
-    (omega arith, length-set (at .loop .c) i _ ∙ at .loop .inv .1,
-    rw (take-set-lt 8 (at .loop .c) i _ (in-loop .loop-test .taken))
-    (more _ _ (same start) (at .loop .inv .2) 0 _ (omega arith)
-    (ap (λ (z : ℕ). z + start .args .a * factor in-loop) (next in-loop)
-    ∙ sym (getD-zipWith (λ y z. z + start .args .a * y) (start .args .s .now) (take 8 (set-list start)) i 0 0 0 (omega arith) (omega arith)))))
+    let l8 = length-take-le 8 (set-list start) (rw length-set (omega arith)) in (
+      omega arith,
+      length-set (at .loop .c) i _ ∙ at .loop .inv .1,
+      rw (take-set-lt 8 (at .loop .c) i _ (in-loop .loop-test .taken))
+          (more _ _ (same start) (at .loop .inv .2) 0 _ (omega arith)
+          (ap (λ (z : ℕ). z + start .args .a * factor in-loop) (next in-loop)
+          ∙ sym (getD-zipWith (λ y z. z + start .args .a * y) (start .args .s .now) (take 8 (set-list start)) i 0 0 0 (omega arith) (omega arith)))),
+    )
 
 same-length : tie.Need-same-length Inv-loop μ-loop
 same-length c = c .before .loop .inv .1 ∙ simp length-set

@@ -57,10 +57,11 @@ unfolding residue
 loop-again c =
     let at = c .before .before .before in
     let start = at .before .before in
-    let x = getD (start .args .z .now) (at .loop .i) (pos 0) in
-    (omega arith,
-    more _ _ (same start) (at .loop .inv .1) 0 _ (omega arith)
-    (c .signed-residue .ensures ∙ ap (residue modulus) (element w16 x (c .before .signed-residue-arg .given) .back) ∙ sym (List·getD-map (residue modulus) (start .args .z .now) (at .loop .i) (pos 0))))
+    let x = getD (start .args .z .now) (at .loop .i) (pos 0) in (
+      omega arith,
+      more _ _ (same start) (at .loop .inv .1) 0 _ (omega arith)
+          (c .signed-residue .ensures ∙ ap (residue modulus) (element w16 x (c .before .signed-residue-arg .given) .back) ∙ sym (List·getD-map (residue modulus) (start .args .z .now) (at .loop .i) (pos 0))),
+    )
 
 same-length : tie.Need-same-length Inv-loop μ-loop
 same-length c = c .before .loop .inv .1 .long

@@ -48,9 +48,10 @@ residues : (c : tie.After-scaled Inv-loop μ-loop) → (getD (c .before .before 
 residues c =
     let at = c .before .before .before .before in
     let start = at .before .before .before in
-    let j = start .args .h + at .loop .i in
-    (omega (arith, within _ _ _ _ (start .pre .0) (at .loop .inv .1) 12288 (start .pre .2) (c .before .before .before .loop-test .taken) .0),
-    omega (arith, c .scaled .ensures, mul-le (start .args .w) (getD (at .loop .s) j 0)))
+    let j = start .args .h + at .loop .i in (
+      omega (arith, within _ _ _ _ (start .pre .0) (at .loop .inv .1) 12288 (start .pre .2) (c .before .before .before .loop-test .taken) .0),
+      omega (arith, c .scaled .ensures, mul-le (start .args .w) (getD (at .loop .s) j 0)),
+    )
 
 sum-requires : tie.Need-sum-requires Inv-loop μ-loop
 sum-requires c κs = residues c
@@ -79,10 +80,11 @@ loop-less c = omega arith
 loop-again : tie.Need-loop-again Inv-loop μ-loop
 loop-again c =
     let p = c .before .before in
-    let start = p .before .before .before .before .before .before .before in
-    (omega arith,
-    more _ _ _ _ (start .pre .0) (p .before .before .before .before .loop .inv .1) (p .before .before .before .loop-test .taken) _ _
-    (c .before .sum .ensures ∙ ap (add _) (p .scaled .ensures)) (c .difference .ensures ∙ ap (sub _) (p .scaled .ensures)))
+    let start = p .before .before .before .before .before .before .before in (
+      omega arith,
+      more _ _ _ _ (start .pre .0) (p .before .before .before .before .loop .inv .1) (p .before .before .before .loop-test .taken) _ _
+          (c .before .sum .ensures ∙ ap (add _) (p .scaled .ensures)) (c .difference .ensures ∙ ap (sub _) (p .scaled .ensures)),
+    )
 
 same-length : tie.Need-same-length Inv-loop μ-loop
 same-length c = c .before .loop .inv .1 .long
