@@ -11,7 +11,7 @@ ghost use Rattle.laws.specs.Refusals.{must};
 ghost use Rattle.sets.specs.Numbers.{dimension, modulus};
 ghost use Rattle.answers.specs.declared.Outcome.the-variants.{CoefficientOutside};
 ghost use Rattle.vectors.specs.Vectors.{within};
-ghost use Rattle.ring.specs.Spectrum.{spectrumOf};
+ghost use Rattle.ring.specs.Transform.{spectrumOf};
 ghost use Rattle.keys.specs.Key.{inRange, second, properKey, keyTest, keyTestOf};
 use answers::Outcome;
 use sets::Asked;
@@ -50,7 +50,7 @@ fn examine(s: Set, f: &[i8], g: &[i8], a: &[u16]) -> Outcome
         return Outcome::CoefficientOutside;
     }
     make_second(&mut s2);
-    let mut spectrum = [0u32; Set::DIMENSION];
+    let mut spectrum = [0u16; Set::DIMENSION];
     ring::transform_key(a, &mut spectrum);
     proper_key(s, a, &spectrum, &s1, &s2)
 }
@@ -80,7 +80,7 @@ pub fn make_second(g: &mut [i16])
 }
 
 // The squared length, then the relation: refusals 7, 6.
-pub fn proper_key(s: Set, a: &[u16], spectrum: &[u32], s1: &[i16], s2: &[i16]) -> Outcome
+pub fn proper_key(s: Set, a: &[u16], spectrum: &[u16], s1: &[i16], s2: &[i16]) -> Outcome
     requires { ⌜ (length (now a) ≡ dimension) × (length (now s1) ≡ dimension) × (length (now s2) ≡ dimension) ⌝ }
     requires { ⌜ (now spectrum ≡ spectrumOf (now a)) × (every (within 5) (now s1) ≡ true) × (every (within 5) (now s2) ≡ true) ⌝ }
     ensures { λ r. ⌜ r ≡ properKey s (now (a .entry)) (now (s1 .entry)) (now (s2 .entry)) ⌝ }

@@ -1,0 +1,321 @@
+-- `ring::convolve` meets its contract. The measure is k: the halves are split once less. Assumes nothing.
+use mathlib.Core.Path.{_≡_, ap, ap₂, sym, _∙_}
+use mathlib.Core.List.{List, _++_}
+use Prim.Native.Nat.{ℕ, _<_, _≤_, _+_, _-_, _/_}
+use native.Mathlib.Omega.{arith}
+use lib.ListN.{length, take, drop, getD, length-append, length-drop}
+use lib.Seq.{length-take-le, take-all}
+use borrow.Fn.Kinds.{In}
+use borrow.Fn.PlainCycle.{Measures, is, falls, and}
+use borrow.Rule.Slice.PartMut.{putMid}
+use Rattle.ring.specs.Transform.{Within, productModulo, size, convolution, joined}
+use Rattle.ring.proofs.Zips.{within-of, within-append, within-take, within-drop}
+use Rattle.ring.proofs.Spectra.{within-convolution}
+use Rattle.ring.proofs.Halves.{still-two, second-half, both-back, back-two}
+use Rattle.ring.proofs.Layers.{length-powers, power-at, power-small, halved, within-first, within-second, convolution-layer, convolution-leaf, size-leaf}
+use Rattle.ring.proofs.convolve.Reads as convolve
+use Rattle.ring.proofs.convolve.Kinds as kinds
+use Rattle.ring.proofs.+convolve.Lts-convolve as lts
+use Rattle.ring.proofs.block.Reads as block-reads
+use Rattle.ring.proofs.join.Reads as join-reads
+use Rattle.ring.proofs.split.Reads as split-reads
+use Rattle.ring.proofs.+convolve.{statement}
+use Rattle.ring.proofs.+convolve.Tie.{close}
+
+abbrev μ : Measures 3 kinds.ps ℕ
+μ κs a = a .1 .1 .0
+
+abbrev at : ℕ → In 3 kinds.ps
+at t = and 3 kinds.ps (is 3 kinds.ps μ t) convolve.Pre
+
+abbrev below : ℕ → In 3 kinds.ps
+below t = and 3 kinds.ps (falls 3 kinds.ps _<_ μ t) convolve.Pre
+
+abbrev known : ℕ → lts.Claims
+known t =
+    (split-reads.Asked, split-reads.Learnt, below t, convolve.Post, join-reads.Asked, join-reads.Learnt, block-reads.Asked, block-reads.Learnt)
+
+module _ (t : ℕ) where
+  -- where there is something to split
+  module _ (c : lts.Then1 (known t) (at t) convolve.Post) where
+    abbrev start : lts.Start (known t) (at t) convolve.Post
+    start = c .before .before .before .before
+
+    abbrev l : List ℕ
+    l = start .args .s .now
+
+    abbrev key : List ℕ
+    key = start .args .f .now
+
+    abbrev h : ℕ
+    h = length l / 2
+
+    -- the table's entry at an exponent
+    abbrev root : ℕ → ℕ
+    root i = getD (start .args .powers .now) i 0
+
+    halves : (h ≡ size (start .args .k - 1)) × (length l ≡ h + h)
+    halves = halved (start .args .k) (length l) (c .if1 .taken) (start .pre .1 .0)
+
+    key-two : length key ≡ h + h
+    key-two = start .pre .1 .1 ∙ sym (start .pre .1 .0) ∙ halves .1
+
+    -- the second half of the key's remainders, as it is lent
+    key-lent : take (length key - h) (drop h key) ≡ drop h key
+    key-lent = take-all (length key - h) (drop h key) (omega (arith, length-drop h key))
+
+    key-rest : length (drop h key) ≡ size (start .args .k - 1)
+    key-rest = length-drop h key ∙ omega (arith, key-two) ∙ halves .0
+
+    exponent : start .args .e / 2 < 512
+    exponent = omega (arith, start .pre .1 .2)
+
+    root-small : (i : ℕ) → i < 1024 → root i < 12289
+    root-small i p = omega (arith, power-small (start .args .powers .now) (start .pre .1 .3) i p)
+
+    table-long : length (start .args .powers .now) ≡ 1024
+    table-long = length-powers (start .args .powers .now) (start .pre .1 .3)
+
+  -- once it is split
+  module _ (c : lts.After-split (known t) (at t) convolve.Post) where
+    abbrev then : lts.Then1 (known t) (at t) convolve.Post
+    then = c .before .before .before
+
+    abbrev s : List ℕ
+    s = c .split .last .0
+
+    two : length s ≡ h then + h then
+    two = c .split .kept .0 ∙ halves then .1
+
+    first-small : Within 12288 (take (h then) s)
+    first-small = within-first (h then) (root then (start then .args .e / 2)) (l then) s (halves then .1) (c .split .ensures)
+
+    second-small : Within 12288 (drop (h then) s)
+    second-small = within-second (h then) (root then (start then .args .e / 2)) (l then) s (halves then .1) (c .split .ensures)
+
+  -- once its first half is done
+  module _ (c : lts.After-convolve (known t) (at t) convolve.Post) where
+    abbrev split : lts.After-split (known t) (at t) convolve.Post
+    split = c .before .before .before .before .before
+
+    abbrev m : List ℕ
+    m = c .convolve .last .0
+
+    as-long : length m ≡ length (take (h (then split)) (s split))
+    as-long = c .convolve .kept .0
+
+    two-left : length (m ++ drop (h (then split)) (s split)) ≡ h (then split) + h (then split)
+    two-left = still-two (h (then split)) (s split) m (two split) as-long
+
+    lent : take (length (m ++ drop (h (then split)) (s split)) - h (then split)) (drop (h (then split)) (m ++ drop (h (then split)) (s split))) ≡ drop (h (then split)) (s split)
+    lent = second-half (h (then split)) (s split) m (two split) as-long
+
+  -- once both are
+  module _ (c : lts.After-convolve2 (known t) (at t) convolve.Post) where
+    abbrev first : lts.After-convolve (known t) (at t) convolve.Post
+    first = c .before .before .before .before .before
+
+    abbrev n : List ℕ
+    n = c .convolve2 .last .0
+
+    abbrev back : List ℕ
+    back =
+        putMid (h (then (split first))) (length (m first ++ drop (h (then (split first))) (s (split first))) - h (then (split first))) (m first ++ drop (h (then (split first))) (s (split first))) n
+
+    back-is : back ≡ m first ++ n
+    back-is = both-back (h (then (split first))) (s (split first)) (m first) (two (split first)) (as-long first) n (c .convolve2 .kept .0)
+
+    back-long : length back ≡ h (then (split first)) + h (then (split first))
+    back-long = back-two (h (then (split first))) (s (split first)) (m first) (two (split first)) (as-long first) n (c .convolve2 .kept .0)
+
+    back-small : Within 12288 back
+    back-small =
+        rw back-is
+        (within-append 12288 (m first) n (within-of (m first) _ (first .convolve .ensures) (within-convolution _ _ _ _)) (within-of n _ (c .convolve2 .ensures) (within-convolution _ _ _ _)))
+
+  mul-split : lts.Need-mul-split (known t) (at t) convolve.Post
+  mul-split c = omega arith
+
+  shared-slice-read-split : lts.Need-shared-slice-read-split (known t) (at t) convolve.Post
+  shared-slice-read-split c = omega (arith, table-long (c .before .before), exponent (c .before .before))
+
+  split-requires : lts.Need-split-requires (known t) (at t) convolve.Post
+  split-requires c κs =
+      let then = c .before .before in
+      (halves then .1, root-small then _ (omega (arith, exponent then)), start then .pre .1 .4)
+
+  slice-relend-prefix-convolve : lts.Need-slice-relend-prefix-convolve (known t) (at t) convolve.Post
+  slice-relend-prefix-convolve c = omega (arith, two (c .before .before))
+
+  slice-aggregate-convolve : lts.Need-slice-aggregate-convolve (known t) (at t) convolve.Post
+  slice-aggregate-convolve c =
+      let split = c .before .before .before in
+      sym (length-take-le (h (then split)) (s split) (omega (arith, two split)))
+
+  slice-aggregate-convolve-2 : lts.Need-slice-aggregate-convolve-2 (known t) (at t) convolve.Post
+  slice-aggregate-convolve-2 c =
+      let then = then (c .before .before .before .before) in
+      sym (length-take-le (h then) (key then) (omega (arith, key-two then)))
+
+  sub-convolve : lts.Need-sub-convolve (known t) (at t) convolve.Post
+  sub-convolve c = then (c .before .before .before .before) .if1 .taken
+
+  convolve-requires : lts.Need-convolve-requires (known t) (at t) convolve.Post
+  convolve-requires c κs =
+      let split = c .before .before .before .before in
+      let then = then split in (
+        omega (arith, then .if1 .taken),
+        (
+          length-take-le (h then) (s split) (omega (arith, two split)) ∙ halves then .0,
+          length-take-le (h then) (key then) (omega (arith, key-two then)) ∙ halves then .0,
+          omega (arith, exponent then),
+          start then .pre .1 .3,
+          first-small split,
+          within-take 12288 (h then) (key then) (start then .pre .1 .5),
+        ),
+      )
+
+  mul-convolve : lts.Need-mul-convolve (known t) (at t) convolve.Post
+  mul-convolve c = omega arith
+
+  sub-convolve-2 : lts.Need-sub-convolve-2 (known t) (at t) convolve.Post
+  sub-convolve-2 c = omega (arith, two-left (c .before .before))
+
+  part-convolve-start : lts.Need-part-convolve-start (known t) (at t) convolve.Post
+  part-convolve-start c = omega (arith, two-left (c .before .before))
+
+  part-convolve-end : lts.Need-part-convolve-end (known t) (at t) convolve.Post
+  part-convolve-end c = omega (arith, two-left (c .before .before))
+
+  mul-convolve-2 : lts.Need-mul-convolve-2 (known t) (at t) convolve.Post
+  mul-convolve-2 c = omega arith
+
+  sub-convolve-3 : lts.Need-sub-convolve-3 (known t) (at t) convolve.Post
+  sub-convolve-3 c = omega (arith, key-two (then (split (c .before .before .before))))
+
+  part-convolve-start-2 : lts.Need-part-convolve-start-2 (known t) (at t) convolve.Post
+  part-convolve-start-2 c = omega (arith, key-two (then (split (c .before .before .before))))
+
+  part-convolve-end-2 : lts.Need-part-convolve-end-2 (known t) (at t) convolve.Post
+  part-convolve-end-2 c = omega (arith, key-two (then (split (c .before .before .before))))
+
+  sub-convolve-4 : lts.Need-sub-convolve-4 (known t) (at t) convolve.Post
+  sub-convolve-4 c = then (split (c .before .before .before .before)) .if1 .taken
+
+  add-convolve : lts.Need-add-convolve (known t) (at t) convolve.Post
+  add-convolve c = omega arith
+
+  convolve-requires-2 : lts.Need-convolve-requires-2 (known t) (at t) convolve.Post
+  convolve-requires-2 c κs =
+      let first = c .before .before .before .before in
+      let split = split first in
+      let then = then split in (
+        omega (arith, then .if1 .taken),
+        (
+          ap length (lent first) ∙ length-drop (h then) (s split) ∙ omega (arith, two split) ∙ halves then .0,
+          ap length (key-lent then) ∙ key-rest then,
+          omega (arith, exponent then),
+          start then .pre .1 .3,
+          rw (lent first) (second-small split),
+          rw (key-lent then) (within-drop 12288 (h then) (key then) (start then .pre .1 .5)),
+        ),
+      )
+
+  sub-join : lts.Need-sub-join (known t) (at t) convolve.Post
+  sub-join c = omega (arith, exponent (then (split (first (c .before .before .before)))))
+
+  mul-join : lts.Need-mul-join (known t) (at t) convolve.Post
+  mul-join c = omega arith
+
+  shared-slice-read-join : lts.Need-shared-slice-read-join (known t) (at t) convolve.Post
+  shared-slice-read-join c = let then = then (split (first (c .before .before .before .before))) in omega (arith, table-long then)
+
+  join-requires : lts.Need-join-requires (known t) (at t) convolve.Post
+  join-requires c κs =
+      let both = c .before .before .before .before in
+      (back-long both, root-small (then (split (first both))) _ (omega arith), back-small both)
+
+  mul-block : lts.Need-mul-block (known t) (at t) convolve.Post
+  mul-block c = omega arith
+
+  shared-slice-read-block : lts.Need-shared-slice-read-block (known t) (at t) convolve.Post
+  shared-slice-read-block c =
+      let start = c .before .before .before .before .before .before in
+      omega (arith, length-powers (start .args .powers .now) (start .pre .1 .3), start .pre .1 .2)
+
+  block-requires : lts.Need-block-requires (known t) (at t) convolve.Post
+  block-requires c κs =
+      let start = c .before .before .before .before .before .before in
+      let eight = size-leaf (start .args .k) (c .before .before .if1 .left) in
+      (start .pre .1 .0 ∙ eight, start .pre .1 .1 ∙ eight, omega (arith, power-small (start .args .powers .now) (start .pre .1 .3) (start .args .e) (start .pre .1 .2)), start .pre .1 .4, start .pre .1 .5)
+
+  same-length : lts.Need-same-length (known t) (at t) convolve.Post
+  same-length c =
+      let both = c .before .before .before .before .before .before .before in
+      c .before .before .join .kept .0 ∙ back-long both ∙ sym (halves (then (split (first both))) .1)
+
+  returns : lts.Need-returns (known t) (at t) convolve.Post
+  returns c =
+      let both = c .before .before .before .before .before .before .before in
+      let first = first both in
+      let split = split first in
+      let then = then split in
+      let start = start then in
+      let k = start .args .k - 1 in
+      convolution-layer (start .args .k) (start .args .e) (root then (start .args .e / 2)) (root then (512 - start .args .e / 2)) (key then) (l then) (s split) (m first) (n both) (c .before .before .join .last .0)
+      (then .if1 .taken) (start .pre .1 .0)
+      (power-at (start .args .powers .now) (start .pre .1 .3) (start .args .e / 2) (omega (arith, exponent then)))
+      (power-at (start .args .powers .now) (start .pre .1 .3) (512 - start .args .e / 2) (omega arith))
+      (split .split .ensures)
+      (first .convolve .ensures)
+      (both .convolve2 .ensures ∙ ap₂ (convolution k (start .args .e / 2 + 512)) (key-lent then) (lent first))
+      (as-long first ∙ length-take-le (h then) (s split) (omega (arith, two split)))
+      (c .before .before .join .ensures ∙ ap (λ (r : List ℕ). joined (root then (512 - start .args .e / 2)) (take (h then) r) (drop (h then) r)) (back-is both))
+
+  same-length-2 : lts.Need-same-length-2 (known t) (at t) convolve.Post
+  same-length-2 c = c .before .before .block .kept .0
+
+  returns-2 : lts.Need-returns-2 (known t) (at t) convolve.Post
+  returns-2 c =
+      let else = c .before .before .before .before .before in
+      let start = else .before .before .before .before in
+      let f = start .args .f .now in
+      let l = start .args .s .now in
+      c .before .before .block .ensures
+      ∙ ap (λ (w : ℕ). productModulo w f l) (power-at (start .args .powers .now) (start .pre .1 .3) (start .args .e) (start .pre .1 .2))
+      ∙ convolution-leaf (start .args .k) (start .args .e) f l (else .if1 .left)
+
+pub +convolve-spec : {M : Type 1} → statement M
++convolve-spec = close μ λ t. lts.spec (known t)
+    (at t)
+    convolve.Post
+    (mul-split t)
+    (shared-slice-read-split t)
+    (split-requires t)
+    (slice-relend-prefix-convolve t)
+    (slice-aggregate-convolve t)
+    (slice-aggregate-convolve-2 t)
+    (sub-convolve t)
+    (convolve-requires t)
+    (mul-convolve t)
+    (sub-convolve-2 t)
+    (part-convolve-start t)
+    (part-convolve-end t)
+    (mul-convolve-2 t)
+    (sub-convolve-3 t)
+    (part-convolve-start-2 t)
+    (part-convolve-end-2 t)
+    (sub-convolve-4 t)
+    (add-convolve t)
+    (convolve-requires-2 t)
+    (sub-join t)
+    (mul-join t)
+    (shared-slice-read-join t)
+    (join-requires t)
+    (mul-block t)
+    (shared-slice-read-block t)
+    (block-requires t)
+    (same-length t)
+    (returns t)
+    (same-length-2 t)
+    (returns-2 t)

@@ -1,0 +1,8 @@
+mod Field
+mod Zips
+mod Estimates
+mod Products
+mod Spectra
+mod Halves
+mod Rows
+mod Layers

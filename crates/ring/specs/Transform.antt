@@ -1,0 +1,78 @@
+-- The transform: a polynomial modulo x^512 + 1 is taken apart into its remainders modulo x^8 - w for 64 numbers w, products are made of
+-- remainders, and put together again. What the product is does not rest on this page (polynomials/specs/Product.antt says it).
+use mathlib.Core.Path.{_≡_}
+use mathlib.Core.List.{List, [], _∷_, _++_, map}
+use Prim.Native.Nat.{ℕ, zero, suc, _+_, _-_, _/_, _%_, _≤_}
+use lib.ListN.{length, getD, take, drop, replicate}
+use Rattle.laws.specs.Lists.{zipWith}
+use Rattle.sets.specs.Numbers.{modulus}
+use Rattle.polynomials.specs.Field.{add, mul}
+use Rattle.ring.specs.Powers.{power}
+
+-- x - y modulo q: 12288 is -1
+abbrev pub sub : ℕ → ℕ → ℕ
+sub x y = add x (mul 12288 y)
+
+-- every entry is at most the bound
+abbrev pub Within : ℕ → List ℕ → Type 0
+Within bound l = (i : ℕ) → getD l i 0 ≤ bound
+
+-- ---- products modulo x^n - w
+
+-- x times h, modulo x^n - w, where h has n coefficients
+unfoldable pub turn : ℕ → List ℕ → List ℕ
+turn w h = mul w (getD h (length h - 1) 0) ∷ take (length h - 1) h
+
+-- f times g, modulo x^n - w, where g has n coefficients
+unfoldable pub productModulo : ℕ → List ℕ → List ℕ → List ℕ
+productModulo w [] g = replicate (length g) 0
+productModulo w (a ∷ f) g = zipWith (λ y z. add (mul a y) z) g (turn w (productModulo w f g))
+
+-- ---- remainders
+
+-- the coefficients of the remainders modulo x^h - w and x^h + w, where x and y stand before x^i and x^(h + i)
+abbrev pub plus : ℕ → ℕ → ℕ → ℕ
+plus w x y = add x (mul w y)
+
+abbrev pub minus : ℕ → ℕ → ℕ → ℕ
+minus w x y = sub x (mul w y)
+
+-- f modulo x^h - w, and modulo x^h + w, where f has 2h coefficients
+unfoldable pub low : ℕ → ℕ → List ℕ → List ℕ
+low h w f = zipWith (plus w) (take h f) (drop h f)
+
+unfoldable pub high : ℕ → ℕ → List ℕ → List ℕ
+high h w f = zipWith (minus w) (take h f) (drop h f)
+
+-- the coefficients that are split k times
+unfoldable pub size : ℕ → ℕ
+size zero = 8
+size (suc k) = size k + size k
+
+-- what remains of f, split k times, modulo x^(size k) - 49^e
+unfoldable pub remainders : ℕ → ℕ → List ℕ → List ℕ
+remainders zero e f = f
+remainders (suc k) e f =
+    remainders k (e / 2) (low (size k) (power (e / 2)) f)
+    ++ remainders k (e / 2 + 512) (high (size k) (power (e / 2)) f)
+
+-- the spectrum of a key: -1 is 49^512
+unfoldable pub spectrumOf : List ℕ → List ℕ
+spectrumOf a = remainders 6 512 (map (λ x. x % modulus) a)
+
+-- ---- products of remainders
+
+-- from the remainders modulo x^h - w and x^h + w, twice what they remain of, where v w = -1
+abbrev pub back : ℕ → ℕ → ℕ → ℕ
+back v x y = mul v (sub y x)
+
+unfoldable pub joined : ℕ → List ℕ → List ℕ → List ℕ
+joined v l r = zipWith add l r ++ zipWith (back v) l r
+
+-- from the remainders of f, the product of f and g modulo x^(size k) - 49^e, doubled k times
+unfoldable pub convolution : ℕ → ℕ → List ℕ → List ℕ → List ℕ
+convolution zero e f g = productModulo (power e) f g
+convolution (suc k) e f g =
+    joined (power (512 - e / 2))
+    (convolution k (e / 2) (take (size k) f) (low (size k) (power (e / 2)) g))
+    (convolution k (e / 2 + 512) (drop (size k) f) (high (size k) (power (e / 2)) g))

@@ -1,0 +1,269 @@
+// The product of a public key and a signed vector, modulo 12289 and x^512 + 1 (01, "Ring arithmetic").
+mod table;
+
+ghost use mathlib.Core.Path.{_≡_};
+ghost use mathlib.Core.List.{_∷_, _++_, map};
+ghost use Prim.Native.Nat.{ℕ, _+_, _*_, _/_, _%_, _<_, _≤_};
+ghost use lib.ListN.{length, getD, take, drop};
+ghost use Rattle.laws.specs.Integers.{residue};
+ghost use Rattle.laws.specs.Lists.{zipWith};
+ghost use Rattle.sets.specs.Numbers.{dimension, modulus};
+ghost use Rattle.polynomials.specs.Field.{add, mul};
+ghost use Rattle.polynomials.specs.Product.{product};
+ghost use Rattle.ring.specs.Powers.{Powers};
+ghost use Rattle.ring.specs.Transform.{sub, Within, productModulo, low, high, size, remainders, spectrumOf, joined, convolution};
+use sets::Set;
+use table::POWERS;
+
+// q, at the width of a residue.
+const MODULUS: u16 = Set::MODULUS as u16;
+
+// 3q: every i16 and this is above 0.
+const THRICE: i32 = 3 * (Set::MODULUS as i32);
+
+// 1 divided by 64, modulo q.
+const INVERSE: u16 = 12097;
+
+// The product of the key a and z.
+pub fn key_product(a: &[u16], z: &[i16], out: &mut [u16])
+    requires { ⌜ (length (now a) ≡ dimension) × (length (now z) ≡ dimension) × (length (now out) ≡ dimension) ⌝ }
+    ensures { λ _. ⌜ now (out .exit) ≡ product (now (a .entry)) (now (z .entry)) ⌝ }
+{
+    let mut spectrum = [0u16; Set::DIMENSION];
+    let table = powers();
+    transform_by(a, &mut spectrum, &table);
+    multiply_by(a, &spectrum, z, out, &table);
+}
+
+// The spectrum of a key, with which a product is made of one transform less.
+pub fn transform_key(a: &[u16], spectrum: &mut [u16])
+    requires { ⌜ (length (now a) ≡ dimension) × (length (now spectrum) ≡ dimension) ⌝ }
+    ensures { λ _. ⌜ now (spectrum .exit) ≡ spectrumOf (now (a .entry)) ⌝ }
+{
+    let table = powers();
+    transform_by(a, spectrum, &table);
+}
+
+// The product of the key a, of which the spectrum is lent, and z. The key itself stands here for the contract alone.
+pub fn multiply(a: &[u16], spectrum: &[u16], z: &[i16], out: &mut [u16])
+    requires { ⌜ (length (now a) ≡ dimension) × (length (now z) ≡ dimension) × (length (now out) ≡ dimension) × (now spectrum ≡ spectrumOf (now a)) ⌝ }
+    ensures { λ _. ⌜ now (out .exit) ≡ product (now (a .entry)) (now (z .entry)) ⌝ }
+{
+    let table = powers();
+    multiply_by(a, spectrum, z, out, &table);
+}
+
+// ---- the same with the table, which is laid out in memory once a product
+
+fn transform_by(a: &[u16], spectrum: &mut [u16], powers: &[u16])
+    requires { ⌜ (length (now a) ≡ dimension) × (length (now spectrum) ≡ dimension) × Powers (now powers) ⌝ }
+    ensures { λ _. ⌜ now (spectrum .exit) ≡ spectrumOf (now (a .entry)) ⌝ }
+{
+    residues(spectrum, a);
+    decompose(spectrum, 6, 512, powers);
+}
+
+fn multiply_by(a: &[u16], spectrum: &[u16], z: &[i16], out: &mut [u16], powers: &[u16])
+    requires { ⌜ (length (now a) ≡ dimension) × (length (now z) ≡ dimension) × (length (now out) ≡ dimension) × (now spectrum ≡ spectrumOf (now a)) × Powers (now powers) ⌝ }
+    ensures { λ _. ⌜ now (out .exit) ≡ product (now (a .entry)) (now (z .entry)) ⌝ }
+{
+    signed_residues(out, z);
+    convolve(out, spectrum, 6, 512, powers);
+    rescale(out);
+}
+
+fn powers() -> [u16; 1024]
+    ensures { λ r. ⌜ Powers r ⌝ }
+{
+    POWERS
+}
+
+// ---- residues of operands and of the answer
+
+fn residues(s: &mut [u16], a: &[u16])
+    requires { ⌜ (length (now s) ≡ dimension) × (length (now a) ≡ dimension) ⌝ }
+    ensures { λ _. ⌜ now (s .exit) ≡ map (λ x. x % modulus) (now (a .entry)) ⌝ }
+{
+    let mut i = 0;
+    while i < Set::DIMENSION {
+        s[i] = a[i] % MODULUS;
+        i += 1;
+    }
+}
+
+fn signed_residues(s: &mut [u16], z: &[i16])
+    requires { ⌜ (length (now s) ≡ dimension) × (length (now z) ≡ dimension) ⌝ }
+    ensures { λ _. ⌜ now (s .exit) ≡ map (residue modulus) (now (z .entry)) ⌝ }
+{
+    let mut i = 0;
+    while i < Set::DIMENSION {
+        s[i] = signed_residue(z[i]);
+        i += 1;
+    }
+}
+
+fn signed_residue(z: i16) -> u16
+    ensures { λ r. ⌜ r ≡ residue modulus z ⌝ }
+{
+    (((z as i32) + THRICE) as u32 % Set::MODULUS) as u16
+}
+
+// The doublings of six joins undone.
+fn rescale(s: &mut [u16])
+    requires { ⌜ length (now s) ≡ dimension ⌝ }
+    ensures { λ _. ⌜ now (s .exit) ≡ map (mul 12097) (now (s .entry)) ⌝ }
+{
+    let r = ratio(INVERSE);
+    let mut i = 0;
+    while i < Set::DIMENSION {
+        s[i] = scaled(INVERSE, r, s[i]);
+        i += 1;
+    }
+}
+
+// ---- the transform
+
+// s, of size k, taken apart into its remainders of 8 coefficients, modulo x^(size k) - 49^e.
+fn decompose(s: &mut [u16], k: usize, e: usize, powers: &[u16])
+    requires { ⌜ (length (now s) ≡ size k) × (e < 1024) × Powers (now powers) × Within 12288 (now s) ⌝ }
+    ensures { λ _. ⌜ now (s .exit) ≡ remainders k e (now (s .entry)) ⌝ }
+{
+    if 0 < k {
+        let h = s.len() / 2;
+        let f = e / 2;
+        split(s, h, powers[f]);
+        decompose(&mut s[..h], k - 1, f, powers);
+        decompose(&mut s[h..], k - 1, f + 512, powers);
+    }
+}
+
+// s times what f are the remainders of, modulo x^(size k) - 49^e, and doubled k times.
+fn convolve(s: &mut [u16], f: &[u16], k: usize, e: usize, powers: &[u16])
+    requires { ⌜ (length (now s) ≡ size k) × (length (now f) ≡ size k) × (e < 1024) × Powers (now powers) × Within 12288 (now s) × Within 12288 (now f) ⌝ }
+    ensures { λ _. ⌜ now (s .exit) ≡ convolution k e (now (f .entry)) (now (s .entry)) ⌝ }
+{
+    if 0 < k {
+        let h = s.len() / 2;
+        let d = e / 2;
+        split(s, h, powers[d]);
+        convolve(&mut s[..h], &f[..h], k - 1, d, powers);
+        convolve(&mut s[h..], &f[h..], k - 1, d + 512, powers);
+        join(s, h, powers[512 - d]);
+    } else {
+        block(s, f, powers[e]);
+    }
+}
+
+// One layer: s modulo x^h - w, then s modulo x^h + w.
+fn split(s: &mut [u16], h: usize, w: u16)
+    requires { ⌜ (length (now s) ≡ h + h) × (w < modulus) × Within 12288 (now s) ⌝ }
+    ensures { λ _. ⌜ now (s .exit) ≡ low h w (now (s .entry)) ++ high h w (now (s .entry)) ⌝ }
+{
+    let r = ratio(w);
+    let mut i = 0;
+    while i < h {
+        let j = h + i;
+        let x = s[i];
+        let y = scaled(w, r, s[j]);
+        s[i] = sum(x, y);
+        s[j] = difference(x, y);
+        i += 1;
+    }
+}
+
+// The layer undone, but for a factor of 2, where v w = -1.
+fn join(s: &mut [u16], h: usize, v: u16)
+    requires { ⌜ (length (now s) ≡ h + h) × (v < modulus) × Within 12288 (now s) ⌝ }
+    ensures { λ _. ⌜ now (s .exit) ≡ joined v (take h (now (s .entry))) (drop h (now (s .entry))) ⌝ }
+{
+    let r = ratio(v);
+    let mut i = 0;
+    while i < h {
+        let j = h + i;
+        let x = s[i];
+        let y = s[j];
+        s[i] = sum(x, y);
+        s[j] = scaled(v, r, difference(y, x));
+        i += 1;
+    }
+}
+
+// ---- products of remainders
+
+// f times s modulo x^8 - w, row by row, from the last coefficient of f: the rows stand in 8 entries of c that move down by one each time.
+// A sum of 9 products of residues is below 2^32.
+fn block(s: &mut [u16], f: &[u16], w: u16)
+    requires { ⌜ (length (now s) ≡ 8) × (length (now f) ≡ 8) × (w < modulus) × Within 12288 (now s) × Within 12288 (now f) ⌝ }
+    ensures { λ _. ⌜ now (s .exit) ≡ productModulo w (now (f .entry)) (now (s .entry)) ⌝ }
+{
+    let mut c = [0u32; 16];
+    let mut i = 8;
+    while 0 < i {
+        i -= 1;
+        row(&mut c[i..], f[i], s, w);
+    }
+    reduce(s, &c);
+}
+
+// One row more of a product modulo x^8 - w, in the first 8 entries of c: its rows so far, which stand in the next 8, times x, and a times s.
+fn row(c: &mut [u32], a: u16, s: &[u16], w: u16)
+    requires { ⌜ (9 ≤ length (now c)) × (length (now s) ≡ 8) × (a < modulus) × (w < modulus) × Within 12288 (now s) ⌝ }
+    requires { ⌜ Within 1207959552 (take 7 (drop 1 (now c))) ⌝ }
+    ensures { λ _. ⌜ take 8 (now (c .exit)) ≡ zipWith (λ y z. z + a * y) (now (s .entry)) (w * (getD (now (c .entry)) 8 0 % modulus) ∷ take 7 (drop 1 (now (c .entry)))) ⌝ }
+{
+    c[0] = (w as u32) * (c[8] % Set::MODULUS);
+    let mut i = 0;
+    while i < 8 {
+        c[i] += (a as u32) * (s[i] as u32);
+        i += 1;
+    }
+}
+
+// The residues of the first 8 entries of c.
+fn reduce(s: &mut [u16], c: &[u32])
+    requires { ⌜ (length (now s) ≡ 8) × (8 ≤ length (now c)) ⌝ }
+    ensures { λ _. ⌜ now (s .exit) ≡ map (λ x. x % modulus) (take 8 (now (c .entry))) ⌝ }
+{
+    let mut i = 0;
+    while i < 8 {
+        s[i] = (c[i] % Set::MODULUS) as u16;
+        i += 1;
+    }
+}
+
+// ---- sums, differences and products of residues
+
+fn sum(x: u16, y: u16) -> u16
+    requires { ⌜ (x < modulus) × (y < modulus) ⌝ }
+    ensures { λ r. ⌜ r ≡ add x y ⌝ }
+{
+    let s = x + y;
+    if s < MODULUS { s } else { s - MODULUS }
+}
+
+fn difference(x: u16, y: u16) -> u16
+    requires { ⌜ (x < modulus) × (y < modulus) ⌝ }
+    ensures { λ r. ⌜ r ≡ sub x y ⌝ }
+{
+    let s = x + (MODULUS - y);
+    if s < MODULUS { s } else { s - MODULUS }
+}
+
+// 2^16 w / q, rounded down: with it a product by w needs no division.
+fn ratio(w: u16) -> u16
+    requires { ⌜ w < modulus ⌝ }
+    ensures { λ r. ⌜ r ≡ w * 65536 / modulus ⌝ }
+{
+    ((w as u32) * 65536 / Set::MODULUS) as u16
+}
+
+// w y, where ratio is that of w: with q times ratio y / 2^16 taken off, less than 2q is left, so that 16 bits are enough to see it.
+fn scaled(w: u16, ratio: u16, y: u16) -> u16
+    requires { ⌜ (w < modulus) × (ratio ≡ w * 65536 / modulus) ⌝ }
+    ensures { λ r. ⌜ r ≡ mul w y ⌝ }
+{
+    let whole = (w as u32) * (y as u32) % 65536;
+    let off = (ratio as u32) * (y as u32) / 65536 * Set::MODULUS % 65536;
+    let left = ((whole + 65536 - off) % 65536) as u16;
+    if left < MODULUS { left } else { left - MODULUS }
+}
