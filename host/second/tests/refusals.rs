@@ -143,7 +143,7 @@ fn each_vector_of_the_key_is_tested() {
         let mut input = right.clone();
         fault(&mut input);
         let outcome = key_test(input.set, &input.f, &input.g, &input.a);
-        assert_eq!(outcome, Err(refusal));
+        assert_eq!(outcome, Err(*refusal));
     }
 }
 
