@@ -104,6 +104,19 @@ fn z2_dagger_is_compared_in_its_centred_form() {
 }
 
 #[test]
+fn a_listed_place_adds_q() {
+    // With a = 1, z1 of -511 gives t = 11778, 12288 t = 12800 modulo 24578, and 12800 + 12289
+    // reduces to 511; z1 of -513 leads to 513. Unlisted they lead to 12800 and 12802.
+    let key = keys::thin();
+    let mut z1 = vec![0; N];
+    (z1[0], z1[1], z1[400], z1[401]) = (-511, -513, -511, -513);
+    let list: Vec<u16> = (0..23).collect();
+    let mut out = vec![0; N];
+    rebuild(1, &key.a, &z1, &[0; N], &list, &mut out).unwrap();
+    assert_eq!([out[0], out[1], out[400], out[401]], [0, 1, 13, 13]);
+}
+
+#[test]
 fn p_steps_are_not_all_of_2q() {
     for set in Set::ALL {
         assert_eq!(set.p() * set.step(), 2 * Q - 2);

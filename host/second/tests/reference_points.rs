@@ -4,7 +4,7 @@ use second::commitment::doubled_zeta_times;
 use second::parameters::N;
 use second::record::total;
 use second::response::{sign_choices, trials};
-use second::ring::{squared_length, upper_digits, whole};
+use second::ring::{centred, squared_length, upper_digits, whole};
 use second::testing::keys;
 use second::{commitment, key_test, rebuild, respond, write, Refusal, Response, Set};
 
@@ -56,6 +56,18 @@ fn upper_digits_of_the_table() {
         for &(x, digits) in row {
             assert_eq!(upper_digits(set, x), digits, "{set:?} {x}");
         }
+    }
+}
+
+#[test]
+fn centring_modulo_p() {
+    for set in Set::ALL {
+        let half = set.p() / 2;
+        for x in -half..half {
+            assert_eq!(centred(set, x), x);
+            assert_eq!(centred(set, x + set.p()), x);
+        }
+        assert_eq!(centred(set, half), -half);
     }
 }
 
