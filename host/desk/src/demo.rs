@@ -287,7 +287,7 @@ fn sign_and_check_many(set: Set, key: &Key, sheets: u64, noise: &mut Noise) -> R
             let _ = std::io::stderr().flush();
         }
     }
-    eprint!("\r");
+    eprint!("\r{:30}\r", "");
     println!(
         "   All {sheets} hold; {tries} tries, {:.1} seconds.",
         start.elapsed().as_secs_f64()
