@@ -1,9 +1,9 @@
 //! Makes files for trying the desk's tool: test keys, a try of signing that is given out, and
-//! the test hash.
+//! the test hash; and the test key of the C example.
 
 use second::testing::hash::list_of;
 use second::testing::keys::published;
-use second::testing::noise::Noise;
+use second::testing::noise::{thresholds, Noise};
 use second::testing::sheet::sign;
 use second::Set;
 use std::fmt::Display;
@@ -17,6 +17,9 @@ bursztok-second: test files for the desk's tool, made by the second program
       Makes a test key of the set from the seed and signs the file MESSAGE with it. Writes to
       FOLDER what the signing took and gave: f, g, a, y1, y2, list, thresholds, words,
       commitment, z1 and z2 (each with the ending .txt), and sign.txt with the sign bit.
+  bursztok-second header SET SEED
+      Prints a C header with a test key of the set and the set's thresholds, as
+      examples/test_key.h has them.
   bursztok-second hash SET VECTOR MESSAGE
       Prints the list that the test hash makes of the rounded vector in the text file VECTOR
       and the file MESSAGE.
@@ -32,6 +35,7 @@ fn main() -> ExitCode {
             Ok(())
         }
         ["try", set, seed, message, folder] => make_try(set, seed, message, folder),
+        ["header", set, seed] => print_header(set, seed),
         ["hash", set, vector, message] => print_list(set, vector, message),
         _ => Err(USAGE.to_string()),
     };
@@ -46,11 +50,8 @@ fn main() -> ExitCode {
 
 fn make_try(set: &str, seed: &str, message: &str, folder: &str) -> Result<(), String> {
     let set = set_named(set)?;
-    let seed = seed
-        .parse()
-        .map_err(|_| format!("the seed '{seed}' is not a whole number"))?;
+    let mut noise = Noise::new(seed_named(seed)?);
     let message = bytes_of(message)?;
-    let mut noise = Noise::new(seed);
     let key = published(set, &mut noise);
     let signed = sign(set, &key, &message, &mut noise);
     let (last_try, signature) = (signed.last_try, signed.signature);
@@ -68,6 +69,37 @@ fn make_try(set: &str, seed: &str, message: &str, folder: &str) -> Result<(), St
     write_numbers(&folder, "commitment", &signed.committed)?;
     write_numbers(&folder, "z1", &signature.z1)?;
     write_numbers(&folder, "z2", &signature.z2_dagger)
+}
+
+fn print_header(set: &str, seed: &str) -> Result<(), String> {
+    let set = set_named(set)?;
+    let key = published(set, &mut Noise::new(seed_named(seed)?));
+    println!(
+        "/* A test key of set {}, made by the second program from seed {seed}, and the set's",
+        set.number()
+    );
+    println!(" * thresholds. For tests only: everybody knows it. */");
+    println!("#ifndef TEST_KEY_H\n#define TEST_KEY_H\n\n#include <stdint.h>\n");
+    println!("#define TEST_KEY_SET {}\n", set.number());
+    print_array("int8_t", "test_key_f", "", &key.f);
+    print_array("int8_t", "test_key_g", "", &key.g);
+    print_array("uint16_t", "test_key_a", "", &key.a);
+    print_array("uint64_t", "test_thresholds", "u", &thresholds(set));
+    println!("#endif");
+    Ok(())
+}
+
+fn print_array<T: Display>(kind: &str, name: &str, suffix: &str, numbers: &[T]) {
+    println!("static const {kind} {name}[{}] = {{", numbers.len());
+    let width = if suffix.is_empty() { 16 } else { 4 };
+    for line in numbers.chunks(width) {
+        let words: Vec<String> = line
+            .iter()
+            .map(|number| format!("{number}{suffix},"))
+            .collect();
+        println!("    {}", words.join(" "));
+    }
+    println!("}};\n");
 }
 
 fn print_list(set: &str, vector: &str, message: &str) -> Result<(), String> {
@@ -92,6 +124,11 @@ fn set_named(word: &str) -> Result<Set, String> {
         .ok()
         .and_then(Set::stated)
         .ok_or_else(|| format!("'{word}' is not a set from 1 to 4"))
+}
+
+fn seed_named(word: &str) -> Result<u64, String> {
+    word.parse()
+        .map_err(|_| format!("the seed '{word}' is not a whole number"))
 }
 
 fn bytes_of(path: &str) -> Result<Vec<u8>, String> {
