@@ -15,11 +15,8 @@ fn main() {
     let archive = folder.join("libbursztok.a");
     println!("cargo:rerun-if-changed={}", archive.display());
     if !archive.is_file() {
-        println!(
-            "cargo:warning=libbursztok.a is not in {}. Build it with 'make lib', or name the folder that holds it in BURSZTOK_LIB_DIR.",
-            folder.display()
-        );
-        eprintln!("There is no {}.", archive.display());
+        eprintln!("libbursztok.a is not in {}.", folder.display());
+        eprintln!("Build it with 'make lib', or name its folder in BURSZTOK_LIB_DIR.");
         exit(1);
     }
     println!("cargo:rustc-link-search=native={}", folder.display());
