@@ -406,3 +406,49 @@ fn entry<T: PartialEq + std::fmt::Display>(name: &str, ours: &[T], theirs: &[T])
         ours[index], theirs[index]
     ))
 }
+
+#[cfg(test)]
+mod tests {
+    use super::{by_second, difference, Call, Left};
+    use crate::faults::right_input;
+    use second::testing::keys;
+    use second::testing::noise::Noise;
+
+    #[test]
+    fn every_difference_is_noticed() {
+        let mut noise = Noise::new(82);
+        let input = right_input(1, &keys::thin(), &mut noise);
+        let right = by_second(Call::Read, &input);
+        assert_eq!(difference(&right, &right), None);
+        let changes: [fn(&mut Left); 10] = [
+            |left| left.number += 1,
+            |left| left.place += 1,
+            |left| left.words += 1,
+            |left| left.set += 1,
+            |left| left.part.0 += 1,
+            |left| left.buffers.rounded[3] ^= 1,
+            |left| left.buffers.z1[0] ^= 1,
+            |left| left.buffers.z2_dagger[300] ^= 1,
+            |left| *left.buffers.list.last_mut().unwrap() ^= 1,
+            |left| left.buffers.record[9] ^= 1,
+        ];
+        for change in changes {
+            let mut other = right.clone();
+            change(&mut other);
+            assert!(difference(&other, &right).is_some());
+        }
+    }
+
+    #[test]
+    fn a_right_input_is_done_by_every_call() {
+        let mut noise = Noise::new(83);
+        for set in 0..5 {
+            let parameters = second::Set::asked(set).unwrap();
+            let key = keys::published(parameters, &mut noise);
+            let input = right_input(set, &key, &mut noise);
+            for call in Call::ALL {
+                assert_eq!(by_second(call, &input).number, 0, "{}", call.name());
+            }
+        }
+    }
+}

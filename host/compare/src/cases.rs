@@ -1,9 +1,10 @@
 //! The cases of a run. Case numbers below `Plan::planned()` go through every call, set and pair of
-//! faults, every header bit, every length of a record and every count of words; those above are
-//! drawn at random. A case is made from the run's seed and its number alone.
+//! faults, every header bit, every length of a record, every count of words and every step of the
+//! draw; those above are drawn at random. A case is made from the run's seed and its number alone.
 
 use crate::calls::{by_library, by_second, difference, Buffers, Call, Input, Left};
 use crate::faults::{faults_of, right_input};
+use crate::walks;
 use second::record::{total, HEADER};
 use second::testing::keys::{self, Key};
 use second::testing::noise::Noise;
@@ -29,6 +30,8 @@ enum Planned {
     RecordLengths { set: u32 },
     /// A walk with every count of words, from none to all that it takes.
     WordCounts { set: u32 },
+    /// Walks through the draw's four steps that fail at every place in turn.
+    Walks { set: u32 },
 }
 
 /// One comparison that failed.
@@ -68,6 +71,7 @@ impl Plan {
             planned.extend((0..HEADER).map(|byte| Planned::HeaderByte { set, byte }));
             planned.push(Planned::RecordLengths { set });
             planned.extend((0..3).map(|_| Planned::WordCounts { set }));
+            planned.push(Planned::Walks { set });
         }
         Plan {
             seed,
@@ -133,6 +137,18 @@ impl Plan {
                 let words = input.words.clone();
                 for count in 0..=taken {
                     input.words = words[..count].to_vec();
+                    found.compare(Call::Respond, &input);
+                }
+            }
+            Planned::Walks { set } => {
+                found.story = format!("walks of the draw, set {set}");
+                let mut input = self.input(number, set, noise);
+                input.thresholds.fill(walks::THRESHOLD);
+                for words in walks::walks(&input, noise) {
+                    // All of the walk, and all but its last word.
+                    input.words.clone_from(&words);
+                    found.compare(Call::Respond, &input);
+                    input.words.pop();
                     found.compare(Call::Respond, &input);
                 }
             }

@@ -237,6 +237,8 @@ const FAULTS: &[Fault] = &[
     fault("record's z2 dagger", WITH_RECORD, record_z2_entry),
     fault("record's sum", WITH_RECORD, record_sum),
     fault("any byte of the record", WITH_RECORD, any_record_byte),
+    fault("record of noise", WITH_RECORD, record_of_noise),
+    fault("sections of noise", WITH_RECORD, sections_of_noise),
 ];
 
 /// The set that the input asks for, or set 1 where it asks for none.
@@ -588,5 +590,17 @@ fn any_record_byte(input: &mut Input, noise: &mut Noise) {
     if !input.record.is_empty() {
         let at = noise.below(input.record.len());
         input.record[at] ^= 1 << noise.below(8);
+    }
+}
+
+fn record_of_noise(input: &mut Input, noise: &mut Noise) {
+    let length = noise.below(1700);
+    input.record = (0..length).map(|_| noise.word() as u8).collect();
+}
+
+/// The header as it is, and any bytes after it.
+fn sections_of_noise(input: &mut Input, noise: &mut Noise) {
+    for byte in input.record.iter_mut().skip(24) {
+        *byte = noise.word() as u8;
     }
 }

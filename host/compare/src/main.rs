@@ -6,6 +6,7 @@ mod cases;
 mod faults;
 mod options;
 mod tally;
+mod walks;
 
 use cases::{Found, Plan};
 use options::Options;

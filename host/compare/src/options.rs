@@ -6,8 +6,8 @@ pub const USAGE: &str = "\
 bursztok-compare [--seed N] [--cases N | --seconds N] [--case N]
 
 Runs every call of the library against the second program: first the planned cases (every pair of
-faults of every call and set, every header bit, every length of a record, every count of words),
-then random ones.
+faults of every call and set, every header bit, every length of a record, every count of words,
+every step of the draw), then random ones.
 
   --seed N     what all cases are made from (default: the day's date as a number)
   --cases N    so many random cases after the planned ones (default 1000)
