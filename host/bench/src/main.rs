@@ -3,10 +3,11 @@
 
 mod work;
 
+use second::testing::calls::Call;
 use second::Set;
 use std::process::{Command, ExitCode};
 use std::time::{Duration, Instant};
-use work::{Call, Side, Work};
+use work::{Side, Work, MEASURED};
 
 const USAGE: &str = "\
 bursztok-bench [--set N] [--milliseconds N]
@@ -74,7 +75,8 @@ fn parse(words: &[String]) -> Result<Options, String> {
             "--symbol" => options.symbol = Some(value()?.clone()),
             "--run" => {
                 let word = value()?;
-                options.run = Some(Call::named(word).ok_or(format!("'{word}' is no call"))?);
+                let call = MEASURED.iter().find(|(_, name, _)| name == word);
+                options.run = Some(call.ok_or(format!("'{word}' is no call"))?.0);
             }
             "--times" => options.times = Some(number(value()?)?),
             "--second" => options.second = true,
@@ -121,7 +123,7 @@ fn measure(set: Set, budget: Duration) {
         "call", "library /s", "a call", "second /s", "a call", "ratio"
     );
     let mut work = Work::new(set, SEED);
-    for call in Call::ALL {
+    for (call, name, _) in MEASURED {
         let mut turns = (Vec::new(), Vec::new());
         for _ in 0..TURNS {
             turns
@@ -134,7 +136,7 @@ fn measure(set: Set, budget: Duration) {
         let (library, second) = (median(turns.0), median(turns.1));
         println!(
             "  {:<11} {:>14.0} {:>9.2} us {:>14.0} {:>9.2} us {:>8.2}",
-            call.name(),
+            name,
             1e6 / library,
             library,
             1e6 / second,
@@ -169,9 +171,9 @@ fn count_instructions(sets: &[Set], symbol: Option<&str>) -> ExitCode {
         symbol.unwrap_or("the exported call")
     );
     for set in sets {
-        for call in Call::ALL {
-            match instructions(*set, call, symbol.unwrap_or(call.symbol())) {
-                Ok(count) => println!("  set {}  {:<11} {count:>12}", set.number(), call.name()),
+        for (_, name, exported) in MEASURED {
+            match instructions(*set, name, symbol.unwrap_or(exported)) {
+                Ok(count) => println!("  set {}  {name:<11} {count:>12}", set.number()),
                 Err(message) => {
                     eprintln!("bench: {message}");
                     return ExitCode::from(1);
@@ -182,14 +184,14 @@ fn count_instructions(sets: &[Set], symbol: Option<&str>) -> ExitCode {
     ExitCode::SUCCESS
 }
 
-fn instructions(set: Set, call: Call, symbol: &str) -> Result<u64, String> {
+fn instructions(set: Set, name: &str, symbol: &str) -> Result<u64, String> {
     const TIMES: u64 = 4;
     let this = std::env::current_exe().map_err(|error| error.to_string())?;
     let output = Command::new("valgrind")
         .args(["--tool=callgrind", "--callgrind-out-file=/dev/null"])
         .arg(format!("--toggle-collect={symbol}"))
         .arg(this)
-        .args(["--run", call.name(), "--times", &TIMES.to_string()])
+        .args(["--run", name, "--times", &TIMES.to_string()])
         .args(["--set", &set.number().to_string()])
         .output()
         .map_err(|error| format!("valgrind cannot be run ({error}); no instructions counted"))?;

@@ -2,10 +2,11 @@
 //! faults, every header bit, every length of a record, every count of words and every step of the
 //! draw; those above are drawn at random. A case is made from the run's seed and its number alone.
 
-use crate::calls::{by_library, by_second, difference, Buffers, Call, Input, Left};
+use crate::buffers::{difference, Buffers, Left};
 use crate::faults::{faults_of, right_input};
-use crate::walks;
+use crate::{library, walks};
 use second::record::{total, HEADER};
+use second::testing::calls::{self, Call, Input};
 use second::testing::keys::{self, Key};
 use second::testing::noise::Noise;
 use second::Set;
@@ -34,17 +35,11 @@ enum Planned {
     Walks { set: u32 },
 }
 
-/// One comparison that failed.
-pub struct Failure {
-    pub call: Call,
-    pub what: String,
-}
-
 /// What a case found: the answers, for the tally, and the failures.
 #[derive(Default)]
 pub struct Found {
     pub answers: Vec<(Call, u32)>,
-    pub failures: Vec<Failure>,
+    pub failures: Vec<String>,
     /// The case in words.
     pub story: String,
 }
@@ -133,9 +128,11 @@ impl Plan {
                 // Thresholds that fail now and then, so that walks go through all four steps.
                 input.thresholds.fill(noise.word() | 7 << 61);
                 input.words = noise.words(300);
-                let taken = by_second(Call::Respond, &input).words as usize;
+                let taken = Left::by(calls::run, Call::Respond, &input, 0)
+                    .answered
+                    .words;
                 let words = input.words.clone();
-                for count in 0..=taken {
+                for count in 0..=taken as usize {
                     input.words = words[..count].to_vec();
                     found.compare(Call::Respond, &input);
                 }
@@ -173,10 +170,10 @@ impl Plan {
             found.story += &format!(", {}", fault.name);
         }
         let left = found.compare(call, &input);
-        if call == Call::Respond && left.number == 0 {
+        if call == Call::Respond && left.number() == 0 {
             found.follow(&input, &left);
         }
-        if call == Call::Read && left.number == 0 {
+        if call == Call::Read && left.number() == 0 {
             found.write_again(&input, &left);
         }
         found
@@ -200,27 +197,24 @@ impl Plan {
 impl Found {
     /// Runs the call on both sides and compares all that they leave behind.
     fn compare(&mut self, call: Call, input: &Input) -> Left {
-        let library = by_library(call, input);
-        let second = by_second(call, input);
-        self.answers.push((call, second.number));
+        // Another fill for each call of a case.
+        let fill = self.answers.len() as u64;
+        let library = Left::by(library::run, call, input, fill);
+        let second = Left::by(calls::run, call, input, fill);
+        let number = library.number();
+        self.answers.push((call, second.number()));
         if let Some(what) = difference(&library, &second) {
             self.fail(call, what);
-        } else if library.number != 0 && library.buffers != Buffers::new(input) {
-            self.fail(call, "a refusal wrote to an output buffer".to_string());
-        } else if !call.numbers().contains(&library.number) {
-            self.fail(call, format!("{} is no number of the call", library.number));
+        } else if number != 0 && library.buffers != Buffers::new(input, fill) {
+            self.fail(call, "a refusal wrote to an output buffer");
+        } else if !call.numbers().contains(&number) {
+            self.fail(call, format!("{number} is no number of the call"));
         }
         library
     }
 
     fn compare_record_calls(&mut self, input: &Input) {
-        let calls = [
-            Call::Read,
-            Call::Z1Section,
-            Call::Z2Section,
-            Call::ListSection,
-        ];
-        for call in calls {
+        for call in Call::ON_RECORD {
             self.compare(call, input);
         }
     }
@@ -234,46 +228,46 @@ impl Found {
         next.hashed.clone_from(&next.list);
         let committed = self.compare(Call::Commitment, &next);
         let rebuilt = self.compare(Call::Rebuild, &next);
-        if rebuilt.number != 0 || rebuilt.buffers.rounded() != committed.buffers.rounded() {
-            self.fail(Call::Rebuild, "it is not the commitment".to_string());
+        if rebuilt.number() != 0 || rebuilt.buffers.rounded() != committed.buffers.rounded() {
+            self.fail(Call::Rebuild, "it is not the commitment");
         }
-        if self.compare(Call::Compare, &next).number != 0 {
-            self.fail(Call::Compare, "a list differs from itself".to_string());
+        if self.compare(Call::Compare, &next).number() != 0 {
+            self.fail(Call::Compare, "a list differs from itself");
         }
         let set = Set::asked(next.set).expect("it was signed");
         next.lengths.record = total(set);
         let written = self.compare(Call::Write, &next);
         next.record = written.buffers.record().to_vec();
         let read = self.compare(Call::Read, &next);
-        let same = read.set == set.number()
+        let same = read.answered.set == set.number()
             && read.buffers.z1() == next.z1
             && read.buffers.z2_dagger() == next.z2_dagger
             && read.buffers.list()[..set.kappa()] == next.list;
-        if written.number != 0 || read.number != 0 || !same {
+        if written.number() != 0 || read.number() != 0 || !same {
             let what = "a record does not read back as the signature";
-            self.fail(Call::Read, what.to_string());
+            self.fail(Call::Read, what);
         }
     }
 
     /// Demand 2: a record that reads is the one that the writer makes of it.
     fn write_again(&mut self, input: &Input, read: &Left) {
-        let Ok(set) = Set::asked(read.set) else {
-            return self.fail(Call::Read, format!("it answers set {}", read.set));
+        let Ok(set) = Set::asked(read.answered.set) else {
+            return self.fail(Call::Read, format!("it answers set {}", read.answered.set));
         };
         let mut next = input.clone();
-        next.set = read.set;
+        next.set = read.answered.set;
         next.z1 = read.buffers.z1().to_vec();
         next.z2_dagger = read.buffers.z2_dagger().to_vec();
         next.list = read.buffers.list()[..set.kappa()].to_vec();
         next.lengths.record = input.record.len();
         let written = self.compare(Call::Write, &next);
-        if written.number != 0 || written.buffers.record() != input.record {
+        if written.number() != 0 || written.buffers.record() != input.record {
             let what = "it does not make the record that was read";
-            self.fail(Call::Write, what.to_string());
+            self.fail(Call::Write, what);
         }
     }
 
-    fn fail(&mut self, call: Call, what: String) {
-        self.failures.push(Failure { call, what });
+    fn fail(&mut self, call: Call, what: impl std::fmt::Display) {
+        self.failures.push(format!("{}: {what}", call.name()));
     }
 }

@@ -1,13 +1,13 @@
 //! Right inputs at random, and ways to spoil them. What number a spoilt input brings is the second
 //! program's to say; several ways may be taken at once.
 
-use crate::calls::Call::{self, *};
-use crate::calls::{Input, OutputLengths};
 use second::key::{s1, s2};
 use second::parameters::{LIST_BUFFER, MASK_LIMIT, N, Q, THRESHOLDS};
 use second::record::total;
 use second::response::sign_choices;
 use second::testing::boundary::{largest_z2_dagger, signature_of_sum, z1_of_sum};
+use second::testing::calls::Call::{self, *};
+use second::testing::calls::{Input, OutputLengths};
 use second::testing::keys::{self, Key};
 use second::testing::noise::{thresholds, Noise};
 use second::Set;
@@ -37,14 +37,7 @@ pub fn right_input(number: u32, key: &Key, noise: &mut Noise) -> Input {
         z1: Vec::new(),
         z2_dagger: Vec::new(),
         record: Vec::new(),
-        lengths: OutputLengths {
-            rounded: N,
-            z1: N,
-            z2_dagger: N,
-            list: LIST_BUFFER,
-            record: total(set),
-        },
-        fill: noise.word(),
+        lengths: OutputLengths::stated(set),
     };
     let sum = match noise.below(4) {
         0 => set.b2_squared(),

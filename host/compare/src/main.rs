@@ -1,19 +1,14 @@
 //! Runs every call of the library against the second program, and compares all that they leave
 //! behind, byte for byte.
 
-mod calls;
-mod cases;
-mod faults;
 mod options;
-mod tally;
-mod walks;
 
-use cases::{Found, Plan};
+use compare::cases::{Found, Plan};
+use compare::tally::Tally;
 use options::Options;
 use std::panic::{catch_unwind, AssertUnwindSafe};
 use std::process::ExitCode;
 use std::time::{Duration, Instant};
-use tally::Tally;
 
 /// Failing cases that are told in full.
 const TOLD: u64 = 10;
@@ -93,10 +88,7 @@ fn run_all(options: &Options, plan: &mut Plan, tally: &mut Tally) {
 fn run_case(plan: &mut Plan, number: u64) -> Found {
     catch_unwind(AssertUnwindSafe(|| plan.run(number))).unwrap_or_else(|_| Found {
         story: "it panicked".to_string(),
-        failures: vec![cases::Failure {
-            call: calls::Call::KeyTest,
-            what: "the case panicked; see above".to_string(),
-        }],
+        failures: vec!["the case panicked; see above".to_string()],
         ..Found::default()
     })
 }
@@ -109,7 +101,7 @@ fn tell(seed: u64, number: u64, found: &Found, tally: &mut Tally) {
     }
     println!("FAILED case {number}: {}", found.story);
     for failure in found.failures.iter().take(3) {
-        println!("  {}: {}", failure.call.name(), failure.what);
+        println!("  {failure}");
     }
     println!("  repeat: bursztok-compare --seed {seed} --case {number}");
 }

@@ -1,7 +1,7 @@
 //! Counts of compared calls, by call and by number.
 
-use crate::calls::Call;
 use crate::cases::Found;
+use second::testing::calls::Call;
 use std::collections::BTreeMap;
 
 #[derive(Default)]

@@ -1,9 +1,9 @@
 //! Rows of words that lead the draw through its steps as planned.
 
-use crate::calls::Input;
 use second::key::{s1, s2};
 use second::response::{shifted, sign_choices, trials};
 use second::ring::whole;
+use second::testing::calls::Input;
 use second::testing::noise::Noise;
 use second::Set;
 
@@ -93,8 +93,9 @@ fn long_walk(admitted: &[u64], second: usize, noise: &mut Noise) -> Vec<u64> {
 #[cfg(test)]
 mod tests {
     use super::{walks, THRESHOLD};
-    use crate::calls::{by_second, Call};
+    use crate::buffers::Left;
     use crate::faults::right_input;
+    use second::testing::calls::{run, Call};
     use second::testing::keys;
     use second::testing::noise::Noise;
     use second::Set;
@@ -108,9 +109,9 @@ mod tests {
         let mut numbers = [0, 0];
         for words in walks(&input, &mut noise) {
             input.words = words;
-            let left = by_second(Call::Respond, &input);
-            assert_eq!(left.words, input.words.len() as u64);
-            match left.number {
+            let answered = Left::by(run, Call::Respond, &input, 7).answered;
+            assert_eq!(answered.words, input.words.len() as u64);
+            match answered.number {
                 0 => numbers[0] += 1,
                 8 => numbers[1] += 1,
                 other => panic!("a walk ends with {other}"),

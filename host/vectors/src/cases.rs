@@ -2,14 +2,14 @@
 
 use crate::recorder::Recorder;
 use crate::slots::{
-    Answered, Asked, Call, A, F, G, HASHED, LIST, RECORD, THRESHOLDS, WORDS, WORDS_ROOM, Y1, Y2,
-    Z1, Z2_DAGGER,
+    Asked, A, F, G, HASHED, LIST, RECORD, THRESHOLDS, WORDS, WORDS_ROOM, Y1, Y2, Z1, Z2_DAGGER,
 };
 use second::key::{s1, s2};
-use second::parameters::{LIST_BUFFER, N};
+use second::parameters::N;
 use second::record::{header, total};
 use second::response::sign_choices;
 use second::testing::boundary::{largest_z2_dagger, signature_of_sum};
+use second::testing::calls::{Answered, Call, OutputLengths};
 use second::testing::keys::{self, Key};
 use second::testing::noise::Noise;
 use second::testing::sheet::{sign, Signature, Signed, Try};
@@ -43,18 +43,21 @@ pub fn vectors(seed: u64) -> Vec<u8> {
     recorder.finish()
 }
 
-/// Every output array at its stated length.
+/// A call of this set with sign bit 0 and every output array at its stated length.
 fn asked(set: u32) -> Asked {
     Asked {
         set,
-        rounded: N as u16,
-        z1: N as u16,
-        z2_dagger: N as u16,
-        list: LIST_BUFFER as u16,
-        record: Set::asked(set).map_or(0, total) as u16,
         sign: false,
+        lengths: OutputLengths::stated(Set::asked(set).expect("a set")),
         fill: 0,
     }
+}
+
+/// The same call with other lengths of its output arrays.
+fn with_lengths(asked: Asked, change: impl Fn(&mut OutputLengths)) -> Asked {
+    let mut lengths = asked.lengths;
+    change(&mut lengths);
+    Asked { lengths, ..asked }
 }
 
 /// 01's reference point: set 1, f = 1, g = 0, a = 1, masks zero, list 0 .. 22, sign bit 0.
@@ -144,6 +147,19 @@ impl Recording<'_> {
         self.key_faults(Call::KeyTest, asked);
     }
 
+    /// Wrong lengths of the z1 and z2 dagger outputs.
+    fn vector_lengths(&mut self, call: Call, asked: Asked) {
+        for length in [0, 511, 513] {
+            for change in [
+                |lengths: &mut OutputLengths, length| lengths.z1 = length,
+                |lengths: &mut OutputLengths, length| lengths.z2_dagger = length,
+            ] {
+                let other = with_lengths(asked, |lengths| change(lengths, length));
+                self.recorder.call(call, other);
+            }
+        }
+    }
+
     /// Refusals 3, 7 and 6, alone and 7 with 6.
     fn key_faults(&mut self, call: Call, asked: Asked) {
         for (slot, place, value) in [(F, 0, 3), (F, 511, -3), (G, 7, i8::MIN), (G, 511, i8::MAX)] {
@@ -181,12 +197,7 @@ impl Recording<'_> {
             self.call(Call::Compare);
             self.call(Call::Write);
             self.load_record(signature);
-            for call in [
-                Call::Read,
-                Call::Z1Section,
-                Call::Z2Section,
-                Call::ListSection,
-            ] {
+            for call in Call::ON_RECORD {
                 self.call(call);
             }
             last = Some(signed);
@@ -241,8 +252,9 @@ impl Recording<'_> {
         let asked = self.asked();
         let call = Call::Commitment;
         self.sets_and_lengths(call, asked, &[(A, N), (Y1, N), (Y2, N)]);
-        for rounded in [0, 511, 513] {
-            self.recorder.call(call, Asked { rounded, ..asked });
+        for length in [0, 511, 513] {
+            let other = with_lengths(asked, |lengths| lengths.rounded = length);
+            self.recorder.call(call, other);
         }
         self.recorder.patched(A, 3, 12289u16, |recorder| {
             recorder.call(call, asked);
@@ -269,17 +281,7 @@ impl Recording<'_> {
         let call = Call::Respond;
         let lengths = [(F, N), (G, N), (A, N), (Y1, N), (Y2, N), (THRESHOLDS, 31)];
         self.sets_and_lengths(call, asked, &lengths);
-        for length in [0, 511, 513] {
-            self.recorder.call(
-                call,
-                Asked {
-                    z1: length,
-                    ..asked
-                },
-            );
-            let z2_dagger = length;
-            self.recorder.call(call, Asked { z2_dagger, ..asked });
-        }
+        self.vector_lengths(call, asked);
         self.key_faults(call, asked);
         for (slot, value) in [(Y1, 4097i16), (Y2, -4097)] {
             self.recorder.patched(slot, 0, value, |recorder| {
@@ -353,8 +355,9 @@ impl Recording<'_> {
         let asked = self.asked();
         let call = Call::Rebuild;
         self.sets_and_lengths(call, asked, &[(A, N), (Z1, N), (Z2_DAGGER, N)]);
-        for rounded in [0, 511, 513] {
-            self.recorder.call(call, Asked { rounded, ..asked });
+        for length in [0, 511, 513] {
+            let other = with_lengths(asked, |lengths| lengths.rounded = length);
+            self.recorder.call(call, other);
         }
         self.recorder.patched(A, 511, 12289u16, |recorder| {
             recorder.call(call, asked);
@@ -444,32 +447,25 @@ impl Recording<'_> {
             recorder.call(call, asked);
         });
         self.entry_faults(call, asked);
-        for record in [0, 23, asked.record - 1, asked.record + 7] {
-            self.recorder.call(call, Asked { record, ..asked });
+        let total = total(self.set);
+        for length in [0, 23, total - 1, total + 7] {
+            let other = with_lengths(asked, |lengths| lengths.record = length);
+            self.recorder.call(call, other);
         }
     }
 
     fn reader_refusals(&mut self, signature: &Signature) {
         self.load_record(signature);
         let asked = self.asked();
-        for wrong in [0, 511, 513] {
-            self.recorder.call(Call::Read, Asked { z1: wrong, ..asked });
-            let z2_dagger = wrong;
-            self.recorder.call(Call::Read, Asked { z2_dagger, ..asked });
+        self.vector_lengths(Call::Read, asked);
+        for length in [0, 38, 40] {
+            let other = with_lengths(asked, |lengths| lengths.list = length);
+            self.recorder.call(Call::Read, other);
         }
-        for list in [0, 38, 40] {
-            self.recorder.call(Call::Read, Asked { list, ..asked });
-        }
-        let calls = [
-            Call::Read,
-            Call::Z1Section,
-            Call::Z2Section,
-            Call::ListSection,
-        ];
         for (at, byte) in header(self.set).into_iter().enumerate() {
             let byte = byte ^ 1 << self.noise.below(8);
             self.recorder.patched(RECORD, at, byte, |recorder| {
-                for call in calls {
+                for call in Call::ON_RECORD {
                     recorder.call(call, asked);
                 }
             });
@@ -482,7 +478,7 @@ impl Recording<'_> {
         let right = total(self.set);
         for length in [0, 1, 3, 4, 23, 24, 25, 1559, 1560, right - 1, right + 1] {
             self.recorder.resized(RECORD, length, |recorder| {
-                for call in calls {
+                for call in Call::ON_RECORD {
                     recorder.call(call, asked);
                 }
             });

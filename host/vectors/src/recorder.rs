@@ -1,7 +1,8 @@
 //! Records loads, patches and calls, with the answers of the second program.
 
-use crate::slots::{bytes_of, Answered, Asked, Call, Element, Slots};
+use crate::slots::{bytes_of, Asked, Element, Slots};
 use crate::LETTERS;
+use second::testing::calls::{Answered, Call};
 use std::ops::Range;
 
 pub const LOAD: u8 = 1;
@@ -147,21 +148,22 @@ fn differing_runs(held: &[u8], wanted: &[u8], width: usize) -> Vec<Range<usize>>
 
 /// The 26 bytes of a call.
 fn encoded(asked: &Asked, answered: &Answered) -> Vec<u8> {
-    let short = |number: u64| u16::try_from(number).expect("within a record or a row of words");
     let mut bytes = asked.set.to_le_bytes().to_vec();
     bytes.extend([answered.number as u8, answered.set as u8]);
+    let lengths = asked.lengths;
     for number in [
-        short(u64::from(answered.place)),
-        short(answered.words),
-        short(u64::from(answered.start)),
-        short(u64::from(answered.length)),
-        asked.rounded,
-        asked.z1,
-        asked.z2_dagger,
-        asked.list,
-        asked.record,
+        answered.place as usize,
+        answered.words as usize,
+        answered.part.0,
+        answered.part.1,
+        lengths.rounded,
+        lengths.z1,
+        lengths.z2_dagger,
+        lengths.list,
+        lengths.record,
     ] {
-        bytes.extend(number.to_le_bytes());
+        let short = u16::try_from(number).expect("within a record or a row of words");
+        bytes.extend(short.to_le_bytes());
     }
     bytes.extend([u8::from(asked.sign), asked.fill]);
     bytes

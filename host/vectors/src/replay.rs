@@ -1,8 +1,9 @@
 //! Replays a file of vectors against the second program, from its bytes alone.
 
 use crate::recorder::{CALL, LOAD, PATCH};
-use crate::slots::{Answered, Asked, Call, Slots};
+use crate::slots::{Asked, Slots};
 use crate::LETTERS;
+use second::testing::calls::{Answered, Call, OutputLengths};
 use std::collections::BTreeMap;
 
 /// How often each call (1 to 10) gave each number.
@@ -66,24 +67,25 @@ fn one_call(call: Call, elements: &[u8], slots: &Slots) -> Result<Answered, Stri
     if elements.len() != 26 {
         return Err(format!("a call of {} bytes", elements.len()));
     }
-    let short = |at: usize| number(&elements[at..at + 2]) as u16;
+    let short = |at: usize| number(&elements[at..at + 2]) as usize;
     let asked = Asked {
         set: number(&elements[..4]) as u32,
-        rounded: short(14),
-        z1: short(16),
-        z2_dagger: short(18),
-        list: short(20),
-        record: short(22),
+        lengths: OutputLengths {
+            rounded: short(14),
+            z1: short(16),
+            z2_dagger: short(18),
+            list: short(20),
+            record: short(22),
+        },
         sign: elements[24] == 1,
         fill: elements[25],
     };
     let wanted = Answered {
         number: u32::from(elements[4]),
         set: u32::from(elements[5]),
-        place: u32::from(short(6)),
-        words: u64::from(short(8)),
-        start: u32::from(short(10)),
-        length: u32::from(short(12)),
+        place: short(6) as u32,
+        words: short(8) as u64,
+        part: (short(10), short(12)),
     };
     let (answered, outputs) = slots.call(call, &asked);
     if answered != wanted {

@@ -1,6 +1,6 @@
 //! The seventeen slots, and a call on them by the second program.
 
-use second::answers::number_and_place;
+use second::testing::calls::{run, Answered, Call, Input, OutputLengths, Outputs};
 
 /// An array of elements, kept as bytes, and its length in elements.
 #[derive(Clone, Debug)]
@@ -57,7 +57,6 @@ impl Slot {
 pub trait Element: Copy {
     fn of(bytes: &[u8]) -> Self;
     fn bytes(self) -> Vec<u8>;
-    fn filled(fill: u8) -> Self;
 }
 
 macro_rules! element {
@@ -68,9 +67,6 @@ macro_rules! element {
             }
             fn bytes(self) -> Vec<u8> {
                 self.to_le_bytes().to_vec()
-            }
-            fn filled(fill: u8) -> $type {
-                fill as $type
             }
         })*
     };
@@ -124,68 +120,13 @@ const ROOMS: [(usize, usize); 17] = [
     (1, 1700),
 ];
 
-#[derive(Clone, Copy, Debug, PartialEq, Eq)]
-pub enum Call {
-    KeyTest = 1,
-    Commitment,
-    Respond,
-    Rebuild,
-    Compare,
-    Write,
-    Read,
-    Z1Section,
-    Z2Section,
-    ListSection,
-}
-
-impl Call {
-    pub const ALL: [Call; 10] = [
-        Call::KeyTest,
-        Call::Commitment,
-        Call::Respond,
-        Call::Rebuild,
-        Call::Compare,
-        Call::Write,
-        Call::Read,
-        Call::Z1Section,
-        Call::Z2Section,
-        Call::ListSection,
-    ];
-}
-
 /// What a call takes beside the slots.
-#[derive(Clone, Copy, Debug, PartialEq, Eq)]
+#[derive(Clone, Copy, Debug)]
 pub struct Asked {
     pub set: u32,
-    pub rounded: u16,
-    pub z1: u16,
-    pub z2_dagger: u16,
-    pub list: u16,
-    pub record: u16,
     pub sign: bool,
+    pub lengths: OutputLengths,
     pub fill: u8,
-}
-
-/// What a call answers.
-#[derive(Clone, Copy, Debug, Default, PartialEq, Eq)]
-pub struct Answered {
-    pub number: u32,
-    pub place: u32,
-    pub set: u32,
-    pub words: u64,
-    pub start: u32,
-    pub length: u32,
-}
-
-impl Answered {
-    fn new(outcome: Result<(), second::Refusal>) -> Answered {
-        let (number, place) = number_and_place(outcome);
-        Answered {
-            number,
-            place,
-            ..Answered::default()
-        }
-    }
 }
 
 /// An output array after a call: the slot that it is held to, and its bytes.
@@ -210,92 +151,52 @@ impl Slots {
         &mut self.0[number - 1]
     }
 
-    /// The second program's answer, and the output arrays that the call was lent.
+    /// The second program's answer, and the output arrays that the call has.
     pub fn call(&self, call: Call, asked: &Asked) -> (Answered, Vec<Output>) {
-        let f = self.get(F).numbers::<i8>();
-        let g = self.get(G).numbers::<i8>();
-        let a = self.get(A).numbers::<u16>();
-        let y1 = self.get(Y1).numbers::<i16>();
-        let y2 = self.get(Y2).numbers::<i16>();
-        let list = self.get(LIST).numbers::<u16>();
-        let hashed = self.get(HASHED).numbers::<u16>();
-        let thresholds = self.get(THRESHOLDS).numbers::<u64>();
-        let words = self.get(WORDS).numbers::<u64>();
-        let z1 = self.get(Z1).numbers::<i16>();
-        let z2_dagger = self.get(Z2_DAGGER).numbers::<i8>();
-        let record = self.get(RECORD).numbers::<u8>();
-        let mut out_rounded = vec![u16::filled(asked.fill); usize::from(asked.rounded)];
-        let mut out_z1 = vec![i16::filled(asked.fill); usize::from(asked.z1)];
-        let mut out_z2 = vec![i8::filled(asked.fill); usize::from(asked.z2_dagger)];
-        let mut out_list = vec![u16::filled(asked.fill); usize::from(asked.list)];
-        let mut out_record = vec![asked.fill; usize::from(asked.record)];
-        let set = asked.set;
-        match call {
-            Call::KeyTest => (Answered::new(second::key_test(set, &f, &g, &a)), vec![]),
-            Call::Commitment => {
-                let outcome = second::commitment(set, &a, &y1, &y2, &mut out_rounded);
-                let outputs = vec![(WANTED_ROUNDED, bytes_of(&out_rounded))];
-                (Answered::new(outcome), outputs)
-            }
-            Call::Respond => {
-                let response = second::respond(
-                    set,
-                    &f,
-                    &g,
-                    &a,
-                    &y1,
-                    &y2,
-                    &list,
-                    asked.sign,
-                    &thresholds,
-                    &words,
-                    &mut out_z1,
-                    &mut out_z2,
-                );
-                let answered = Answered {
-                    words: response.words,
-                    ..Answered::new(response.outcome)
-                };
-                let outputs = vec![
-                    (WANTED_Z1, bytes_of(&out_z1)),
-                    (WANTED_Z2_DAGGER, bytes_of(&out_z2)),
-                ];
-                (answered, outputs)
-            }
-            Call::Rebuild => {
-                let outcome = second::rebuild(set, &a, &z1, &z2_dagger, &list, &mut out_rounded);
-                let outputs = vec![(WANTED_ROUNDED, bytes_of(&out_rounded))];
-                (Answered::new(outcome), outputs)
-            }
-            Call::Compare => (Answered::new(second::compare(set, &list, &hashed)), vec![]),
-            Call::Write => {
-                let outcome = second::write(set, &z1, &z2_dagger, &list, &mut out_record);
-                (Answered::new(outcome), vec![(WANTED_RECORD, out_record)])
-            }
-            Call::Read => {
-                let reading = second::read(&record, &mut out_z1, &mut out_z2, &mut out_list);
-                let answered = Answered {
-                    set: reading.set,
-                    ..Answered::new(reading.outcome)
-                };
-                let outputs = vec![
-                    (WANTED_Z1, bytes_of(&out_z1)),
-                    (WANTED_Z2_DAGGER, bytes_of(&out_z2)),
-                    (WANTED_LIST, bytes_of(&out_list)),
-                ];
-                (answered, outputs)
-            }
-            Call::Z1Section => (section(&record, second::z1_section), vec![]),
-            Call::Z2Section => (section(&record, second::z2_section), vec![]),
-            Call::ListSection => (section(&record, second::list_section), vec![]),
+        let lengths = asked.lengths;
+        let mut rounded = vec![u16::from(asked.fill); lengths.rounded];
+        let mut z1 = vec![i16::from(asked.fill); lengths.z1];
+        let mut z2_dagger = vec![asked.fill as i8; lengths.z2_dagger];
+        let mut list = vec![u16::from(asked.fill); lengths.list];
+        let mut record = vec![asked.fill; lengths.record];
+        let outputs = Outputs {
+            rounded: &mut rounded,
+            z1: &mut z1,
+            z2_dagger: &mut z2_dagger,
+            list: &mut list,
+            record: &mut record,
+        };
+        let answered = run(call, &self.input(asked), outputs);
+        let rounded = (WANTED_ROUNDED, bytes_of(&rounded));
+        let z1 = (WANTED_Z1, bytes_of(&z1));
+        let z2_dagger = (WANTED_Z2_DAGGER, bytes_of(&z2_dagger));
+        let outputs = match call {
+            Call::Commitment | Call::Rebuild => vec![rounded],
+            Call::Respond => vec![z1, z2_dagger],
+            Call::Write => vec![(WANTED_RECORD, record)],
+            Call::Read => vec![z1, z2_dagger, (WANTED_LIST, bytes_of(&list))],
+            _ => vec![],
+        };
+        (answered, outputs)
+    }
+
+    fn input(&self, asked: &Asked) -> Input {
+        Input {
+            set: asked.set,
+            f: self.get(F).numbers(),
+            g: self.get(G).numbers(),
+            a: self.get(A).numbers(),
+            y1: self.get(Y1).numbers(),
+            y2: self.get(Y2).numbers(),
+            list: self.get(LIST).numbers(),
+            hashed: self.get(HASHED).numbers(),
+            sign: asked.sign,
+            thresholds: self.get(THRESHOLDS).numbers(),
+            words: self.get(WORDS).numbers(),
+            z1: self.get(Z1).numbers(),
+            z2_dagger: self.get(Z2_DAGGER).numbers(),
+            record: self.get(RECORD).numbers(),
+            lengths: asked.lengths,
         }
     }
-}
-
-fn section(record: &[u8], call: for<'a> fn(&'a [u8], &mut u32, &mut u32) -> &'a [u8]) -> Answered {
-    let mut answered = Answered::default();
-    let part = call(record, &mut answered.number, &mut answered.place);
-    answered.start = (part.as_ptr() as usize - record.as_ptr() as usize) as u32;
-    answered.length = part.len() as u32;
-    answered
 }

@@ -1,20 +1,7 @@
 //! The file is small, says the same at each making, replays, and notices damage.
 
+use second::testing::calls::Call;
 use vectors::{replay, vectors};
-
-/// The numbers that each call gives, by 01's orders.
-const NUMBERS: [&[u32]; 10] = [
-    &[0, 1, 2, 3, 7, 6],
-    &[0, 1, 2, 3, 4],
-    &[0, 1, 2, 3, 4, 5, 7, 6, 8, 9, 10, 11],
-    &[0, 1, 2, 3, 5, 10, 11],
-    &[0, 1, 5, 12],
-    &[0, 1, 2, 5, 10, 11, 14],
-    &[0, 2, 13, 5, 10, 11],
-    &[0, 13],
-    &[0, 13],
-    &[0, 13],
-];
 
 #[test]
 fn the_file_replays_and_reaches_every_number() {
@@ -22,12 +9,10 @@ fn the_file_replays_and_reaches_every_number() {
     assert!(file.len() < 300 * 1024, "{} bytes", file.len());
     assert_eq!(file, vectors(1));
     let counts = replay(&file).unwrap();
-    for (call, numbers) in (1..).zip(NUMBERS) {
-        for &number in numbers {
-            assert!(
-                counts.contains_key(&(call, number)),
-                "call {call}, {number}"
-            );
+    for call in Call::ALL {
+        for &number in call.numbers() {
+            let reached = counts.contains_key(&(call as u8, number));
+            assert!(reached, "{}, {number}", call.name());
         }
     }
 }

@@ -2,6 +2,7 @@
 //! hash. All of it is seeded and for tests only; nothing here is fit to sign cargo with.
 
 pub mod boundary;
+pub mod calls;
 pub mod hash;
 pub mod keys;
 pub mod noise;
