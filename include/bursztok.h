@@ -6,8 +6,8 @@
  * LENT MEMORY
  *
  *   Each array is a pointer and a length. Lengths count elements, not bytes. The pointer must be
- *   aligned for its type and good for that many elements. The library keeps no pointer, allocates
- *   nothing and holds no state between calls.
+ *   aligned for its type and good for that many elements; with length 0 it is not used. The library
+ *   keeps no pointer, allocates nothing and holds no state between calls.
  *
  *   An array that a call writes must not overlap any other array or number of the same call.
  *   Arrays that a call only reads may overlap each other.
