@@ -16,7 +16,9 @@ fn main() {
     println!("cargo:rerun-if-changed={}", archive.display());
     if !archive.is_file() {
         eprintln!("libbursztok.a is not in {}.", folder.display());
-        eprintln!("Build it with 'make lib', or name its folder in BURSZTOK_LIB_DIR.");
+        eprintln!(
+            "Build it with 'make lib', or put the full path of its folder into BURSZTOK_LIB_DIR."
+        );
         exit(1);
     }
     println!("cargo:rustc-link-search=native={}", folder.display());
