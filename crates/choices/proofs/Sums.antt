@@ -19,7 +19,7 @@ use Rattle.polynomials.specs.Product.{shift}
 use Rattle.polynomials.proofs.Operations.{Linear, plus, minus}
 use Rattle.polynomials.proofs.Shift.{length-shift, shift-keeps}
 use Rattle.vectors.specs.Places.{isPlace}
-use Rattle.choices.specs.Choices.{Pair, pair, column, innerPair, signed, choice, chosen, chooseFrom, choices, zeros}
+use Rattle.choices.specs.Choices.{Pair, Sized, pair, column, innerPair, signed, choice, chosen, chooseFrom, choices, zeros}
 use Rattle.choices.specs.Signs.{sumFrom, signedSum}
 
 -- ---- v1 and v2 are signed sums
@@ -77,14 +77,15 @@ module _ (t u : List ℤ) (R : ℕ → List ℤ → List ℤ → Type 0)
   unfolding signedSum
   sums-keep s l e r = keep-from s l e (pair zeros zeros) 0 (length l) (omega arith) zeros zeros r
 
--- ---- lengths and entries
-module _ (s : Pair) (l : List ℕ) (places : every isPlace l ≡ true) where
-  pub length-sum : (t : List ℤ) → length t ≡ dimension → length (signedSum s l t) ≡ dimension
-  length-sum t lt =
-      sums-keep t t (λ n x y. length x ≡ dimension) (λ b n i x y h lx. signed-length b i x t lx lt) s l places (length-replicate dimension (pos 0))
+-- ---- entries
 
-  -- each entry is at most a column's for each place
-  pub sum-entries : (t : List ℤ) (bound : ℕ) → length t ≡ dimension → ((k : ℕ) → natAbs (getD t k (pos 0)) ≤ bound)
+-- each entry of both vectors is at most a bound
+pub record Within (bound : ℕ) (v : Pair) : Type 0 where
+  pub first : (k : ℕ) → natAbs (getD (v .first) k (pos 0)) ≤ bound
+  pub second : (k : ℕ) → natAbs (getD (v .second) k (pos 0)) ≤ bound
+
+module _ (s : Pair) (l : List ℕ) (places : every isPlace l ≡ true) where
+  sum-entries : (t : List ℤ) (bound : ℕ) → length t ≡ dimension → ((k : ℕ) → natAbs (getD t k (pos 0)) ≤ bound)
       → (k : ℕ) → natAbs (getD (signedSum s l t) k (pos 0)) ≤ length l * bound
   sum-entries t bound lt small k =
       sums-keep t t (λ n x y. (length x ≡ dimension) × (natAbs (getD x k (pos 0)) ≤ n * bound))
@@ -110,3 +111,10 @@ module _ (s : Pair) (l : List ℕ) (places : every isPlace l ≡ true) where
             entry i h,
             suc-mul n bound,
           )
+
+  -- each entry of v1 and of v2 is at most a column's for each place
+  module _ (bound : ℕ) (key : Sized s) (small : Within bound s) where
+    pub choices-within : Within (length l * bound) (choices s l)
+    choices-within =
+        rw (choices-sums s l)
+        (record { first = sum-entries (s .first) bound (key .first) (small .first); second = sum-entries (s .second) bound (key .second) (small .second) })
