@@ -1,8 +1,8 @@
 -- Squared lengths and inner products, entry by entry, and what bounds them. Assumes nothing.
-use mathlib.Core.Path.{_≡_, refl, sym, _∙_, ap}
+use mathlib.Core.Path.{_≡_, sym, _∙_, ap}
 use mathlib.Core.List.{List, [], _∷_}
 use Prim.Native.Nat.{ℕ, zero, suc, _+_, _*_, _<_, _≤_}
-use native.Mathlib.Nat.{not-suc-le-zero, le-of-suc-le-suc}
+use native.Mathlib.Nat.{not-suc-le-zero, le-of-suc-le-suc, mul-le-mul, mul-suc}
 use native.Mathlib.Numerals.{add-one}
 use native.Mathlib.Omega.{arith}
 use lib.IntN.{ℤ, pos, natAbs, _+ℤ_, _*ℤ_, +ℤ-assoc, +ℤ-idl, +ℤ-idr}
@@ -33,7 +33,14 @@ pub inner-more : (x y : List ℤ) (i : ℕ) → i < length x → i < length y
     → inner (take (i + 1) x) (take (i + 1) y) ≡ inner (take i x) (take i y) +ℤ getD x i (pos 0) *ℤ getD y i (pos 0)
 inner-more x y i h k = rw add-one (inner-suc x y i h k)
 
--- ---- sizes
+-- ---- bounds
+pub squares-le : (bound : ℕ) (x : List ℤ) → ((k : ℕ) → natAbs (getD x k (pos 0)) ≤ bound) → squares x ≤ bound * bound * length x
+unfolding squares
+squares-le bound [] h = omega arith
+squares-le bound (a ∷ x) h =
+    let rest = squares-le bound x (λ k. h (suc k)) in
+    omega (arith, mul-le-mul (h 0) (h 0), mul-suc (bound * bound) (length x), rest)
+
 pub inner-le-sizes : (x y : List ℤ) → natAbs (inner x y) ≤ sizes x y
 unfolding inner sizes
 inner-le-sizes [] y = omega arith
