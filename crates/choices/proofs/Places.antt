@@ -15,16 +15,12 @@ use Rattle.sets.specs.Numbers.{dimension}
 use Rattle.polynomials.specs.Product.{shift, one}
 use Rattle.polynomials.proofs.One.{length-one, power-here, power-elsewhere}
 use Rattle.vectors.specs.Places.{isPlace, rising, listed}
+use Rattle.vectors.proofs.Rising.{rising-tail}
 use Rattle.choices.specs.Choices.{Pair, pair, column, innerPair, signed, choice, chosen, choices, zeros}
 use Rattle.choices.specs.Signs.{sumFrom, signedSum, signs}
 use Rattle.choices.proofs.Sums.{signed-length, signed-at, first-place, other-places}
 
 -- ---- lists that rise list a place once
-rising-rest : (i : ℕ) (l : List ℕ) → rising (i ∷ l) ≡ true → rising l ≡ true
-unfolding rising
-rising-rest i [] e = refl
-rising-rest i (j ∷ l) e = and-right (ltb i j) (rising (j ∷ l)) e
-
 rising-after : (i k : ℕ) (l : List ℕ) → rising (i ∷ l) ≡ true → k ≤ i → listed l k ≡ false
 unfolding rising listed
 rising-after i k [] e h = refl
@@ -75,7 +71,7 @@ module _ (s : Pair) (k : ℕ) (inside : k < dimension) where
   unfolding sumFrom listed
   marked [] e r n v x lx z = absurd (differ n)
   marked (i ∷ l) e r n v x lx z =
-      pick (eqb i k) refl n (λ m. marked l (other-places i l e) (rising-rest i l r) m (chosen v (column i s)) next (signed-length b i x one lx length-one))
+      pick (eqb i k) refl n (λ m. marked l (other-places i l e) (rising-tail i l r) m (chosen v (column i s)) next (signed-length b i x one lx length-one))
     where
       b : Bool
       b = ltZ (innerPair v (column i s)) (pos 0)
