@@ -20,7 +20,7 @@ fn main() {
     if !vectors::all_within(&s2, 5) {
         return;
     }
-    io::number::print_decimal(STDOUT_FILENO, sum(&s1, &s2));
+    io::print_decimal(STDOUT_FILENO, sum(&s1, &s2));
     io::write_all(STDOUT_FILENO, b"\n");
 }
 

@@ -19,10 +19,6 @@ use Rattle.choices.proofs.Bound.{sized-column, squares-column}
 use Rattle.choices.proofs.Walk.{Walked, walk-start, walk-more, walk-end, walk-room}
 use Rattle.choices.proofs.choose.Statement.{statement}
 use Rattle.choices.proofs.choose.Tie as tie
-use Rattle.choices.proofs.choose.Reads as reads
-use Rattle.choices.proofs.choose.Lts as lts
-use Rattle.choices.proofs.step.Reads as step-reads
-use Rattle.vectors.proofs.mirror.Reads as mirror-reads
 
 -- the part of a doubled vector that is the column x^i s
 window : (i : ℕ) (s double : List ℤ) → i < dimension → length s ≡ dimension → double ≡ mirrored s
@@ -64,85 +60,66 @@ module _ (c : tie.In-loop Inv-loop μ-loop) where
   second-part : take (dimension - place + dimension - (dimension - place)) (drop (dimension - place) (c .before .before .before .mirror2 .last .1 .0)) ≡ shift place (key start .second)
   second-part = window place (key start .second) _ place-small (start .pre .0 .1) (c .before .before .before .mirror2 .ensures)
 
--- src/lib.rt:22:25
 slice-aggregate-mirror : tie.Need-slice-aggregate-mirror Inv-loop μ-loop
 slice-aggregate-mirror c = refl
 
--- src/lib.rt:22:5
 mirror-requires : tie.Need-mirror-requires Inv-loop μ-loop
 mirror-requires c κs = (c .before .before .pre .0 .0, refl, within-wider 5 32767 (c .before .before .args .s1 .now) (lit≤ tt) (c .before .before .pre .0 .2))
 
--- src/lib.rt:24:25
 slice-aggregate-mirror-2 : tie.Need-slice-aggregate-mirror-2 Inv-loop μ-loop
 slice-aggregate-mirror-2 c = refl
 
--- src/lib.rt:24:5
 mirror-requires-2 : tie.Need-mirror-requires-2 Inv-loop μ-loop
-mirror-requires-2 c κs = 
+mirror-requires-2 c κs =
     let s = c .before .before .before .before .before in
     (s .pre .0 .1, refl, within-wider 5 32767 (s .args .s2 .now) (lit≤ tt) (s .pre .0 .3))
 
--- src/lib.rt:26:5
 loop-holds : tie.Need-loop-holds Inv-loop μ-loop
-loop-holds c = 
+loop-holds c =
     let s = c .before .before .before .before .before .before .before in
     (omega arith, rw (s .pre .1 .1 .0, s .pre .1 .1 .1) (walk-start (key s) (s .args .list .now)))
 
--- src/lib.rt:27:38
 mul-start : tie.Need-mul-start Inv-loop μ-loop
 mul-start c = omega arith
 
--- src/lib.rt:27:38
 shared-slice-read-start : tie.Need-shared-slice-read-start Inv-loop μ-loop
 shared-slice-read-start c = omega arith
 
--- src/lib.rt:27:38
 cast-start : tie.Need-cast-start Inv-loop μ-loop
 cast-start c = omega (arith, place-small (c .before))
 
--- src/lib.rt:27:21
 sub-start : tie.Need-sub-start Inv-loop μ-loop
 sub-start c = omega (arith, place-small (c .before))
 
--- src/lib.rt:28:19
 add-end : tie.Need-add-end Inv-loop μ-loop
 add-end c = omega (arith, place-small (c .before))
 
--- src/lib.rt:29:22
 mul-step : tie.Need-mul-step Inv-loop μ-loop
 mul-step c = omega (arith, place-small (c .before .before .before))
 
--- src/lib.rt:29:22
 sub-step : tie.Need-sub-step Inv-loop μ-loop
 sub-step c = omega arith
 
--- src/lib.rt:29:22
 part-step-start : tie.Need-part-step-start Inv-loop μ-loop
 part-step-start c = omega (arith, place-small (c .before .before .before .before))
 
--- src/lib.rt:29:22
 part-step-end : tie.Need-part-step-end Inv-loop μ-loop
 part-step-end c = omega (arith, place-small (c .before .before .before .before))
 
--- src/lib.rt:29:44
 mul-step-2 : tie.Need-mul-step-2 Inv-loop μ-loop
 mul-step-2 c = omega (arith, place-small (c .before .before .before .before .before))
 
--- src/lib.rt:29:44
 sub-step-2 : tie.Need-sub-step-2 Inv-loop μ-loop
 sub-step-2 c = omega arith
 
--- src/lib.rt:29:44
 part-step-start-2 : tie.Need-part-step-start-2 Inv-loop μ-loop
 part-step-start-2 c = omega (arith, place-small (c .before .before .before .before .before .before))
 
--- src/lib.rt:29:44
 part-step-end-2 : tie.Need-part-step-end-2 Inv-loop μ-loop
 part-step-end-2 c = omega (arith, place-small (c .before .before .before .before .before .before))
 
--- src/lib.rt:29:9
 step-requires : tie.Need-step-requires Inv-loop μ-loop
-step-requires c κs = 
+step-requires c κs =
     let l = c .before .before .before .before .before .before .before in
     let s = start l in
     let v = l .before .loop .inv .1 .sized in
@@ -157,17 +134,14 @@ step-requires c κs =
       ),
     )
 
--- src/lib.rt:30:9
 add-k : tie.Need-add-k Inv-loop μ-loop
 add-k c = omega arith
 
--- src/lib.rt:26:5
 loop-less : tie.Need-loop-less Inv-loop μ-loop
 loop-less c = omega arith
 
--- src/lib.rt:26:5
 loop-again : tie.Need-loop-again Inv-loop μ-loop
-loop-again c = 
+loop-again c =
     let l = c .before .before .before .before .before .before .before .before .before .before in
     let s = start l in (
       omega arith,
@@ -175,15 +149,12 @@ loop-again c =
           (walk-more (key s) (s .args .list .now) (l .before .loop .inv .1) (sized s) (l .loop-test .taken)),
     )
 
--- src/lib.rt:15:1
 same-length : tie.Need-same-length Inv-loop μ-loop
 same-length c = c .before .loop .inv .1 .sized .first ∙ sym (ap length (c .before .before .before .before .before .before .before .before .before .pre .1 .1 .0))
 
--- src/lib.rt:15:1
 same-length-2 : tie.Need-same-length-2 Inv-loop μ-loop
 same-length-2 c = c .before .loop .inv .1 .sized .second ∙ sym (ap length (c .before .before .before .before .before .before .before .before .before .pre .1 .1 .1))
 
--- src/lib.rt:15:1
 returns : tie.Need-returns Inv-loop μ-loop
 returns c = walk-end (key (c .before .before .before .before .before .before .before .before .before)) _ (c .before .loop .inv .1) (omega arith)
 
