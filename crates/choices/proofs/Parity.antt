@@ -1,15 +1,15 @@
 -- The parity of v2, where s2 = 2g + 1: odd at the listed places and even elsewhere, as c' is. Assumes nothing.
 use mathlib.Core.Path.{_≡_, refl, ap}
-use mathlib.Core.Bool.{Bool, true, false}
+use mathlib.Core.Bool.{true, false}
 use mathlib.Core.List.{List}
-use Prim.Native.Nat.{ℕ, suc, _<_}
+use Prim.Native.Nat.{ℕ, _<_}
 use native.Mathlib.Omega.{arith}
 use lib.IntN.{ℤ, pos, negsuc, natAbs}
 use lib.ListN.{length, getD, length-replicate}
-use Rattle.laws.specs.Lists.{every, zipWith}
+use Rattle.laws.specs.Lists.{every}
 use Rattle.laws.proofs.Congruence.{Cong, cong-eq, cong-refl, cong-neg, cong-trans}
 use Rattle.sets.specs.Numbers.{dimension}
-use Rattle.polynomials.specs.Product.{shift, one}
+use Rattle.polynomials.specs.Product.{one}
 use Rattle.polynomials.proofs.One.{length-one}
 use Rattle.polynomials.proofs.Operations.{linear-cong}
 use Rattle.polynomials.proofs.Shift.{shift-keeps}

@@ -2,11 +2,11 @@
 use mathlib.Core.Path.{_≡_, refl, sym, ap, ap₂, _∙_}
 use mathlib.Core.Bool.{Bool, true, false, _||_}
 use mathlib.Core.List.{List, [], _∷_}
-use Prim.Native.Nat.{ℕ, zero, suc, _<_, _≤_}
+use Prim.Native.Nat.{ℕ, _<_, _≤_}
 use native.Mathlib.Omega.{arith}
 use borrow.Author.Tests.{ltb-true, eqb-true, eqb-false, ne-eqb}
 use lib.Dec.{eqb, ltb}
-use lib.IntN.{ℤ, pos, negsuc, natAbs, +ℤ-idr}
+use lib.IntN.{ℤ, pos, natAbs, +ℤ-idr}
 use lib.ListN.{length, getD, length-replicate, getD-replicate}
 use lib.Signed.{ltZ}
 use Rattle.laws.specs.Lists.{every, zipWith}
@@ -16,7 +16,7 @@ use Rattle.polynomials.specs.Product.{shift, one}
 use Rattle.polynomials.proofs.One.{length-one, power-here, power-elsewhere}
 use Rattle.vectors.specs.Places.{isPlace, rising, listed}
 use Rattle.vectors.proofs.Rising.{rising-tail}
-use Rattle.choices.specs.Choices.{Pair, pair, column, innerPair, signed, choice, chosen, choices, zeros}
+use Rattle.choices.specs.Choices.{Pair, pair, column, innerPair, signed, choice, chosen, zeros}
 use Rattle.choices.specs.Signs.{sumFrom, signedSum, signs}
 use Rattle.choices.proofs.Sums.{signed-length, signed-at, first-place, other-places}
 

@@ -3,11 +3,11 @@ ghost use mathlib.Core.Path.{_≡_};
 ghost use mathlib.Core.Bool.{true};
 ghost use Prim.Native.Nat.{_+_, _^_, _≤_};
 ghost use lib.ListN.{length};
-ghost use Rattle.laws.specs.Lists.{every};
+ghost use Rattle.laws.specs.Lists.{every, zipWith};
 ghost use Rattle.sets.specs.Numbers.{dimension};
 ghost use Rattle.vectors.specs.Vectors.{within, squares};
 ghost use Rattle.vectors.specs.Places.{isPlace};
-ghost use Rattle.choices.specs.Choices.{pair, chosen, choices, zeros};
+ghost use Rattle.choices.specs.Choices.{pair, signed, chosen, choices, zeros};
 use sets::Set;
 
 // v1 and v2 come as all zeros. With entries of s1 and s2 of at most 5 and at most 113 places an entry of v1 or v2 is at most 565, and an inner product
@@ -38,11 +38,19 @@ fn step(v1: &mut [i16], v2: &mut [i16], c1: &[i16], c2: &[i16])
     ensures { λ _. ⌜ pair (now (v1 .exit)) (now (v2 .exit)) ≡ chosen (pair (now (v1 .entry)) (now (v2 .entry))) (pair (now (c1 .entry)) (now (c2 .entry))) ⌝ }
 {
     let inner = vectors::inner_product(v1, c1) + vectors::inner_product(v2, c2);
-    if inner < 0 {
-        vectors::add_to(v1, c1);
-        vectors::add_to(v2, c2);
+    let negative = inner < 0;
+    join(v1, c1, negative);
+    join(v2, c2, negative);
+}
+
+// v + c or v - c, in v's place.
+fn join(v: &mut [i16], c: &[i16], add: bool)
+    requires { ⌜ (length (now v) ≡ dimension) × (length (now c) ≡ dimension) × (squares (now v) + squares (now c) ≤ 2 ^ 26) ⌝ }
+    ensures { λ _. ⌜ now (v .exit) ≡ zipWith (signed add) (now (v .entry)) (now (c .entry)) ⌝ }
+{
+    if add {
+        vectors::add_to(v, c);
     } else {
-        vectors::subtract_from(v1, c1);
-        vectors::subtract_from(v2, c2);
+        vectors::subtract_from(v, c);
     }
 }

@@ -1,8 +1,7 @@
-use mathlib.Core.Path.{_≡_, refl, sym, _∙_, ap, ap₂}
+use mathlib.Core.Path.{_≡_, refl, sym, _∙_, ap}
 use mathlib.Core.List.{List}
 use Prim.Native.Nat.{ℕ, _+_, _-_, _<_, _≤_}
 use native.Mathlib.Omega.{arith}
-use borrow.Author.Needs.{needs}
 use borrow.Author.Tests.{ltb-true}
 use lib.Dec.{lit≤}
 use lib.IntN.{ℤ}
@@ -14,16 +13,19 @@ use Rattle.polynomials.proofs.Shift.{shift-window}
 use Rattle.vectors.specs.Places.{isPlace}
 use Rattle.vectors.specs.Vectors.{squares, mirrored}
 use Rattle.vectors.proofs.Ranges.{within-wider}
-use Rattle.choices.specs.Choices.{Pair, Sized, pair, column, chosen, choices}
+use Rattle.choices.specs.Choices.{Pair, Sized, pair}
 use Rattle.choices.proofs.Bound.{sized-column, squares-column}
 use Rattle.choices.proofs.Walk.{Walked, walk-start, walk-more, walk-end, walk-room}
 use Rattle.choices.proofs.choose.Statement.{statement}
 use Rattle.choices.proofs.choose.Tie as tie
 
--- the part of a doubled vector that is the column x^i s
-window : (i : ℕ) (s double : List ℤ) → i < dimension → length s ≡ dimension → double ≡ mirrored s
-    → take (dimension - i + dimension - (dimension - i)) (drop (dimension - i) double) ≡ shift i s
-window i s double h e m =
+-- the part of a doubled vector that starts 512 - i from its start
+abbrev part : ℕ → List ℤ → List ℤ
+part i double = take (dimension - i + dimension - (dimension - i)) (drop (dimension - i) double)
+
+-- it is the column x^i s
+part-is : (i : ℕ) (s double : List ℤ) → i < dimension → length s ≡ dimension → double ≡ mirrored s → part i double ≡ shift i s
+part-is i s double h e m =
     let whole : dimension - i + dimension - (dimension - i) ≡ dimension = omega arith in
     rw (whole, m) (sym (shift-window i s e))
 
@@ -54,11 +56,11 @@ module _ (c : tie.In-loop Inv-loop μ-loop) where
   place-small : place < dimension
   place-small = ltb-true place dimension (every-at isPlace (start .args .list .now) (c .before .loop .k) 0 (start .pre .1 .0 .1) (c .loop-test .taken))
 
-  first-part : take (dimension - place + dimension - (dimension - place)) (drop (dimension - place) (c .before .before .before .before .before .before .mirror .last .1 .0)) ≡ shift place (key start .first)
-  first-part = window place (key start .first) _ place-small (start .pre .0 .0) (c .before .before .before .before .before .before .mirror .ensures)
+  first-part : part place (c .before .before .before .before .before .before .mirror .last .1 .0) ≡ shift place (key start .first)
+  first-part = part-is place (key start .first) _ place-small (start .pre .0 .0) (c .before .before .before .before .before .before .mirror .ensures)
 
-  second-part : take (dimension - place + dimension - (dimension - place)) (drop (dimension - place) (c .before .before .before .mirror2 .last .1 .0)) ≡ shift place (key start .second)
-  second-part = window place (key start .second) _ place-small (start .pre .0 .1) (c .before .before .before .mirror2 .ensures)
+  second-part : part place (c .before .before .before .mirror2 .last .1 .0) ≡ shift place (key start .second)
+  second-part = part-is place (key start .second) _ place-small (start .pre .0 .1) (c .before .before .before .mirror2 .ensures)
 
 slice-aggregate-mirror : tie.Need-slice-aggregate-mirror Inv-loop μ-loop
 slice-aggregate-mirror c = refl
@@ -145,7 +147,7 @@ loop-again c =
     let l = c .before .before .before .before .before .before .before .before .before .before in
     let s = start l in (
       omega arith,
-      rw (c .before .before .step .ensures ∙ ap (chosen (vector l)) (ap₂ pair (first-part l) (second-part l)))
+      rw (c .before .before .step .ensures, first-part l, second-part l)
           (walk-more (key s) (s .args .list .now) (l .before .loop .inv .1) (sized s) (l .loop-test .taken)),
     )
 

@@ -1,10 +1,9 @@
-use mathlib.Core.Path.{_≡_, refl, sym, _∙_, ap}
+use mathlib.Core.Path.{_≡_, refl, sym}
 use Prim.Native.Nat.{_-_, _≤_}
 use native.Mathlib.Omega.{arith}
-use lib.Dec.{lit<, lit≤}
+use lib.Dec.{lit<}
 use lib.ListN.{length, length-set}
 use Rattle.laws.proofs.Chain.{passed}
-use Rattle.sets.specs.Numbers.{dimension}
 use borrow.Author.Needs.{needs}
 use Rattle.choices_bench.proofs.squared.Statement.{statement}
 use Rattle.choices_bench.proofs.squared.Tie as tie
