@@ -16,18 +16,22 @@ use Rattle.polynomials.proofs.Shift.{length-shift}
 use Rattle.vectors.specs.Vectors.{squares}
 use Rattle.vectors.proofs.Greedy.{add-pair-bound, subtract-pair-bound}
 use Rattle.vectors.proofs.Lengths.{squares-turned}
-use Rattle.choices.specs.Choices.{Pair, Sized, pair, column, squaresPair, innerPair, signed, choice, chosen, chooseFrom, choices, zeros}
+use Rattle.choices.specs.Choices.{Pair, pair, column, squaresPair, innerPair, signed, choice, chosen, chooseFrom, choices, zeros}
+use Rattle.choices.proofs.Pairs.{Sized}
 
 -- ---- a column has the key's size
+-- 512 entries
 pub sized-column : (i : ℕ) (s : Pair) → Sized s → Sized (column i s)
 sized-column i s h = record { first = length-shift i (s .first) ∙ h .first; second = length-shift i (s .second) ∙ h .second }
 
+-- and the same squared length, since a shift keeps it
 pub squares-column : (i : ℕ) (s : Pair) → squaresPair (column i s) ≡ squaresPair s
 unfolding shift
 squares-column i s = omega (arith, squares-turned (dimension - i) (s .first), squares-turned (dimension - i) (s .second))
 
 -- ---- one column more
 module _ (v c : Pair) (hv : Sized v) (hc : Sized c) where
+  -- 512 entries
   pub sized-chosen : Sized (chosen v c)
   unfolding chosen
   sized-chosen =
@@ -47,9 +51,11 @@ module _ (v c : Pair) (hv : Sized v) (hc : Sized c) where
       pick false e = omega (arith, subtract-pair-bound (v .first) (c .first) (v .second) (c .second) (omega arith) (omega arith) (ltZ-no (rw e tt)))
 
 -- ---- all columns
+-- 512 entries
 pub sized-zeros : Sized (pair zeros zeros)
 sized-zeros = record { first = length-replicate dimension (pos 0); second = length-replicate dimension (pos 0) }
 
+-- of squared length 0
 pub squares-zeros : (n : ℕ) → squares (replicate n (pos 0)) ≡ 0
 unfolding squares
 squares-zeros zero = refl

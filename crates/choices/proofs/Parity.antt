@@ -16,7 +16,7 @@ use Rattle.polynomials.proofs.Shift.{shift-keeps}
 use Rattle.vectors.specs.Places.{isPlace, rising, listed}
 use Rattle.choices.specs.Choices.{Pair, choices, zeros}
 use Rattle.choices.specs.Signs.{signedSum, signs}
-use Rattle.choices.proofs.Sums.{choices-sums, signed-linear, signed-length, signed-at, sums-keep}
+use Rattle.choices.proofs.Sums.{choices-sums, signed-linear, signed-length, column-at, sums-keep}
 use Rattle.choices.proofs.Places.{signs-listed, signs-elsewhere}
 
 -- 1 and -1 are odd
@@ -36,7 +36,7 @@ module _ (s : Pair) (l : List ℕ) (places : every isPlace l ≡ true) where
       (λ b n i x y h r. (
         signed-length b i x t (r .0) lt,
         signed-length b i y u (r .1) lu,
-        rw (signed-at b i x t (r .0) lt k, signed-at b i y u (r .1) lu k)
+        rw (column-at b i x t (r .0) lt k, column-at b i y u (r .1) lu k)
             (linear-cong (signed-linear b) (r .2) (shift-keeps (Cong m) (cong-refl (pos 0)) (λ y z d. cong-neg d) t u lt lu c i k (omega arith))),
       )) s l places (length-replicate dimension (pos 0), length-replicate dimension (pos 0), cong-refl (getD zeros k (pos 0))) .2
 

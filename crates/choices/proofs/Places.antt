@@ -18,7 +18,7 @@ use Rattle.vectors.specs.Places.{isPlace, rising, listed}
 use Rattle.vectors.proofs.Rising.{rising-tail}
 use Rattle.choices.specs.Choices.{Pair, pair, column, innerPair, signed, choice, chosen, zeros}
 use Rattle.choices.specs.Signs.{sumFrom, signedSum, signs}
-use Rattle.choices.proofs.Sums.{signed-length, signed-at, first-place, other-places}
+use Rattle.choices.proofs.Sums.{signed-length, column-at, first-place, other-places}
 
 -- ---- lists that rise list a place once
 rising-after : (i k : ℕ) (l : List ℕ) → rising (i ∷ l) ≡ true → k ≤ i → listed l k ≡ false
@@ -46,13 +46,13 @@ module _ (s : Pair) (k : ℕ) (inside : k < dimension) where
     -- x^i changes place i alone
     elsewhere : eqb i k ≡ false → getD (zipWith (signed b) x (shift i one)) k (pos 0) ≡ getD x k (pos 0)
     elsewhere other =
-        signed-at b i x one lx length-one k ∙ ap (signed b (getD x k (pos 0))) (power-elsewhere i k place inside (eqb-false i k other))
+        column-at b i x one lx length-one k ∙ ap (signed b (getD x k (pos 0))) (power-elsewhere i k place inside (eqb-false i k other))
         ∙ signed-zero b (getD x k (pos 0))
 
     here : eqb i k ≡ true → getD x k (pos 0) ≡ pos 0 → natAbs (getD (zipWith (signed b) x (shift i one)) k (pos 0)) ≡ 1
     here same e =
         let at : getD (shift i one) k (pos 0) ≡ pos 1 = rw (sym (eqb-true i k same)) (power-here i place) in
-        ap natAbs (signed-at b i x one lx length-one k ∙ ap₂ (signed b) e at) ∙ signed-one b
+        ap natAbs (column-at b i x one lx length-one k ∙ ap₂ (signed b) e at) ∙ signed-one b
 
   -- a place that is not listed keeps its entry
   kept : (l : List ℕ) → every isPlace l ≡ true → listed l k ≡ false → (v : Pair) (x : List ℤ) → length x ≡ dimension

@@ -1,5 +1,5 @@
 -- v1 and v2 are sums of columns with the same signs: what every column keeps, whatever its sign, holds of them. Assumes nothing.
-use mathlib.Core.Path.{_≡_, refl, sym, subst, ap, _∙_}
+use mathlib.Core.Path.{_≡_, refl, sym, subst, _∙_}
 use mathlib.Core.Bool.{Bool, true, false}
 use mathlib.Core.List.{List, [], _∷_}
 use Prim.Native.Nat.{ℕ, zero, suc, _+_, _*_, _<_, _≤_}
@@ -10,16 +10,17 @@ use lib.IntN.{ℤ, pos, natAbs}
 use lib.ListN.{length, getD, replicate, length-replicate}
 use lib.Signed.{ltZ}
 use Rattle.laws.specs.Lists.{every, zipWith}
-use Rattle.laws.proofs.Bounds.{abs-neg, abs-add, abs-sub}
+use Rattle.laws.proofs.Bounds.{abs-neg}
 use Rattle.laws.proofs.Chain.{and-left, and-right}
-use Rattle.laws.proofs.Entries.{length-zipWith, getD-zipWith-anywhere}
+use Rattle.laws.proofs.Entries.{length-zipWith}
 use Rattle.sets.specs.Numbers.{dimension}
 use Rattle.polynomials.specs.Product.{shift}
 use Rattle.polynomials.proofs.Operations.{Linear, plus, minus}
 use Rattle.polynomials.proofs.Shift.{length-shift, shift-keeps}
 use Rattle.vectors.specs.Places.{isPlace}
-use Rattle.choices.specs.Choices.{Pair, Sized, pair, column, innerPair, signed, choice, chosen, chooseFrom, choices, zeros}
+use Rattle.choices.specs.Choices.{Pair, pair, column, innerPair, signed, choice, chosen, chooseFrom, choices, zeros}
 use Rattle.choices.specs.Signs.{sumFrom, signedSum}
+use Rattle.choices.proofs.Pairs.{Sized, Within, signed-at, signed-within}
 
 -- ---- v1 and v2 are signed sums
 choose-sums : (s : Pair) (l : List ℕ) (v : Pair)
@@ -28,38 +29,42 @@ unfolding chooseFrom sumFrom chosen
 choose-sums s [] v = refl
 choose-sums s (i ∷ l) v = choose-sums s l (chosen v (column i s))
 
+-- v1 and v2, with the same signs
 pub choices-sums : (s : Pair) (l : List ℕ) → choices s l ≡ pair (signedSum s l (s .first)) (signedSum s l (s .second))
 unfolding choices signedSum
 choices-sums s l = choose-sums s l (pair zeros zeros)
 
 -- ---- one column more
+-- the operation is linear
 pub signed-linear : (b : Bool) → Linear (signed b)
 signed-linear true = plus
 signed-linear false = minus
 
-signed-size : (b : Bool) (x y : ℤ) → natAbs (signed b x y) ≤ natAbs x + natAbs y
-signed-size true = abs-add
-signed-size false = abs-sub
+column-same : (i : ℕ) (x t : List ℤ) → length x ≡ dimension → length t ≡ dimension → length x ≡ length (shift i t)
+column-same i x t lx lt = lx ∙ sym (length-shift i t ∙ lt)
 
+-- a column keeps the length
 pub signed-length : (b : Bool) (i : ℕ) (x t : List ℤ) → length x ≡ dimension → length t ≡ dimension
     → length (zipWith (signed b) x (shift i t)) ≡ dimension
-signed-length b i x t lx lt = length-zipWith (signed b) x (shift i t) (lx ∙ sym (length-shift i t ∙ lt)) ∙ lx
+signed-length b i x t lx lt = length-zipWith (signed b) x (shift i t) (column-same i x t lx lt) ∙ lx
 
-pub signed-at : (b : Bool) (i : ℕ) (x t : List ℤ) → length x ≡ dimension → length t ≡ dimension → (k : ℕ)
+-- and changes each entry by its own
+pub column-at : (b : Bool) (i : ℕ) (x t : List ℤ) → length x ≡ dimension → length t ≡ dimension → (k : ℕ)
     → getD (zipWith (signed b) x (shift i t)) k (pos 0) ≡ signed b (getD x k (pos 0)) (getD (shift i t) k (pos 0))
-signed-at true i x t lx lt k = getD-zipWith-anywhere (signed true) x (shift i t) k (pos 0) (pos 0) (lx ∙ sym (length-shift i t ∙ lt))
-signed-at false i x t lx lt k = getD-zipWith-anywhere (signed false) x (shift i t) k (pos 0) (pos 0) (lx ∙ sym (length-shift i t ∙ lt))
+column-at b i x t lx lt k = signed-at b x (shift i t) (column-same i x t lx lt) k
 
 -- ---- a list of places
+-- the first is a place
 pub first-place : (i : ℕ) (l : List ℕ) → every isPlace (i ∷ l) ≡ true → i < dimension
 unfolding every
 first-place i l e = ltb-true i dimension (and-left (isPlace i) (every isPlace l) e)
 
+-- and so are the others
 pub other-places : (i : ℕ) (l : List ℕ) → every isPlace (i ∷ l) ≡ true → every isPlace l ≡ true
 unfolding every
 other-places i l e = and-right (isPlace i) (every isPlace l) e
 
--- ---- all columns: two sums with the same signs, over t and over u, after n columns
+-- ---- all columns: what relates two sums with the same signs, over t and over u, after n columns
 module _ (t u : List ℤ) (R : ℕ → List ℤ → List ℤ → Type 0)
     (step : (b : Bool) (n i : ℕ) (x y : List ℤ) → i < dimension → R n x y
     → R (suc n) (zipWith (signed b) x (shift i t)) (zipWith (signed b) y (shift i u))) where
@@ -72,17 +77,12 @@ module _ (t u : List ℤ) (R : ℕ → List ℤ → List ℤ → Type 0)
       (zipWith (choice v (column i s)) x (shift i t)) (zipWith (choice v (column i s)) y (shift i u))
       (step (ltZ (innerPair v (column i s)) (pos 0)) n i x y (first-place i l e) r)
 
+  -- what each column keeps, whatever its sign, holds at the end
   pub sums-keep : (s : Pair) (l : List ℕ) → every isPlace l ≡ true → R 0 zeros zeros → R (length l) (signedSum s l t) (signedSum s l u)
   unfolding signedSum
   sums-keep s l e r = keep-from s l e (pair zeros zeros) 0 (length l) (omega arith) zeros zeros r
 
 -- ---- entries
-
--- each entry of both vectors is at most a bound
-pub record Within (bound : ℕ) (v : Pair) : Type 0 where
-  pub first : (k : ℕ) → natAbs (getD (v .first) k (pos 0)) ≤ bound
-  pub second : (k : ℕ) → natAbs (getD (v .second) k (pos 0)) ≤ bound
-
 module _ (s : Pair) (l : List ℕ) (places : every isPlace l ≡ true) where
   sum-entries : (t : List ℤ) (bound : ℕ) → length t ≡ dimension → ((k : ℕ) → natAbs (getD t k (pos 0)) ≤ bound)
       → (k : ℕ) → natAbs (getD (signedSum s l t) k (pos 0)) ≤ length l * bound
@@ -103,16 +103,10 @@ module _ (s : Pair) (l : List ℕ) (places : every isPlace l ≡ true) where
       more : (b : Bool) (n i : ℕ) (x : List ℤ) → i < dimension → length x ≡ dimension → natAbs (getD x k (pos 0)) ≤ n * bound
           → natAbs (getD (zipWith (signed b) x (shift i t)) k (pos 0)) ≤ suc n * bound
       more b n i x h lx r =
-          omega (
-            arith,
-            ap natAbs (signed-at b i x t lx lt k),
-            signed-size b (getD x k (pos 0)) (getD (shift i t) k (pos 0)),
-            entry i h,
-            suc-mul n bound,
-          )
+          omega (arith, signed-within b x (shift i t) (column-same i x t lx lt) k (n * bound) bound r (entry i h), suc-mul n bound)
 
-  -- each entry of v1 and of v2 is at most a column's for each place
   module _ (bound : ℕ) (key : Sized s) (small : Within bound s) where
+    -- each entry of v1 and of v2 is at most a column's for each place
     pub choices-within : Within (length l * bound) (choices s l)
     choices-within =
         rw (choices-sums s l)

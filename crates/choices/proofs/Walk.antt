@@ -14,7 +14,8 @@ use Rattle.sets.specs.Numbers.{dimension}
 use Rattle.vectors.specs.Vectors.{within, squares}
 use Rattle.vectors.proofs.Ranges.{within-at}
 use Rattle.vectors.proofs.Sums.{squares-le}
-use Rattle.choices.specs.Choices.{Pair, Sized, pair, column, squaresPair, chosen, chooseFrom, choices, zeros}
+use Rattle.choices.specs.Choices.{Pair, pair, column, squaresPair, chosen, chooseFrom, choices, zeros}
+use Rattle.choices.proofs.Pairs.{Sized}
 use Rattle.choices.proofs.Bound.{sized-zeros, squares-zeros, sized-column, squares-column, sized-chosen, squares-chosen}
 
 -- v stands for the first k places, and the others are left
@@ -24,11 +25,13 @@ pub record Walked (s : Pair) (l : List ℕ) (k : ℕ) (v : Pair) : Type 0 where
   pub left : choices s l ≡ chooseFrom s (drop k l) v
 
 module _ (s : Pair) (l : List ℕ) where
+  -- no place yet
   pub walk-start : Walked s l 0 (pair zeros zeros)
   unfolding choices
   walk-start = record { sized = sized-zeros; short = omega (arith, squares-zeros dimension); left = refl }
 
   module _ {k : ℕ} {v : Pair} (so : Walked s l k v) where
+    -- one place more
     pub walk-more : Sized s → k < length l → Walked s l (k + 1) (chosen v (column (getD l k 0) s))
     unfolding chooseFrom
     walk-more key h =
@@ -40,6 +43,7 @@ module _ (s : Pair) (l : List ℕ) where
           left = so .left ∙ rw (drop-cons l k 0 h, add-one k);
         }
 
+    -- all places
     pub walk-end : length l ≤ k → v ≡ choices s l
     unfolding chooseFrom
     walk-end h = sym (so .left ∙ ap (λ (r : List ℕ). chooseFrom s r v) (drop-of-length-le l h))
@@ -48,6 +52,7 @@ module _ (s : Pair) (l : List ℕ) where
 squares-small : (x : List ℤ) → length x ≡ dimension → every (within 5) x ≡ true → squares x ≤ 12800
 squares-small x e h = omega (arith, squares-le 5 x (within-at 5 x h))
 
+-- squared lengths stay small
 pub walk-room : (s : Pair) → Sized s → every (within 5) (s .first) ≡ true → every (within 5) (s .second) ≡ true
     → (k : ℕ) (v : Pair) → k ≤ 113 → squaresPair v ≤ k * squaresPair s → squaresPair v + squaresPair s ≤ 2 ^ 26
 walk-room s key h j k v places short =

@@ -1,11 +1,10 @@
 -- The sign choices (01, "Response"; document 004, Algorithm 1): start with v1 = v2 = 0; for each place i in rising order take the inner product of
 -- (v1, v2) with (x^i s1, x^i s2); if it is zero or more, subtract that column from v, otherwise add it.
-use mathlib.Core.Path.{_≡_}
 use mathlib.Core.Bool.{Bool, true, false}
 use mathlib.Core.List.{List, [], _∷_}
 use Prim.Native.Nat.{ℕ, _+_}
 use lib.IntN.{ℤ, pos, _+ℤ_, _-ℤ_}
-use lib.ListN.{length, replicate}
+use lib.ListN.{replicate}
 use lib.Signed.{ltZ}
 use Rattle.laws.specs.Lists.{zipWith}
 use Rattle.sets.specs.Numbers.{dimension}
@@ -20,31 +19,27 @@ pub record Pair : Type 0 where
 abbrev pub pair : List ℤ → List ℤ → Pair
 pair x y = record { first = x; second = y }
 
--- both vectors have 512 entries
-pub record Sized (v : Pair) : Type 0 where
-  pub first : length (v .first) ≡ dimension
-  pub second : length (v .second) ≡ dimension
-
 -- (x^i s1, x^i s2)
 abbrev pub column : ℕ → Pair → Pair
 column i s = pair (shift i (s .first)) (shift i (s .second))
 
--- |(v1, v2)| squared
+-- the squared length and the inner product of pairs
 abbrev pub squaresPair : Pair → ℕ
 squaresPair v = squares (v .first) + squares (v .second)
 
 abbrev pub innerPair : Pair → Pair → ℤ
 innerPair v c = inner (v .first) (c .first) +ℤ inner (v .second) (c .second)
 
--- added where the inner product is negative, subtracted where it is zero or more
+-- a sum, or a difference
 abbrev pub signed : Bool → ℤ → ℤ → ℤ
 signed true = _+ℤ_
 signed false = _-ℤ_
 
+-- c is added where its inner product with v is negative, and subtracted where it is zero or more
 abbrev pub choice : Pair → Pair → ℤ → ℤ → ℤ
 choice v c = signed (ltZ (innerPair v c) (pos 0))
 
--- v and the column c, with the sign that c is given
+-- what v becomes with the column c
 unfoldable pub chosen : Pair → Pair → Pair
 chosen v c = pair (zipWith (choice v c) (v .first) (c .first)) (zipWith (choice v c) (v .second) (c .second))
 

@@ -6,7 +6,7 @@ use Rattle.laws.specs.Lists.{zipWith}
 use Rattle.polynomials.specs.Product.{one, shift}
 use Rattle.choices.specs.Choices.{Pair, pair, column, choice, chosen, zeros}
 
--- from v on, over the places that are left: each x^i t joins `sum` with the sign that the column of s is given
+-- from v on, over the places that are left: x^i t joins the sum with the sign that the column x^i s is given
 unfoldable pub sumFrom : Pair → List ℕ → Pair → List ℤ → List ℤ → List ℤ
 sumFrom s [] v t sum = sum
 sumFrom s (i ∷ l) v t sum = sumFrom s l (chosen v (column i s)) t (zipWith (choice v (column i s)) sum (shift i t))

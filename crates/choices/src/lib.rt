@@ -10,8 +10,8 @@ ghost use Rattle.vectors.specs.Places.{isPlace};
 ghost use Rattle.choices.specs.Choices.{pair, signed, chosen, choices, zeros};
 use sets::Set;
 
-// v1 and v2 come as all zeros. With entries of s1 and s2 of at most 5 and at most 113 places an entry of v1 or v2 is at most 565, and an inner product
-// below 2^22.
+// v1 and v2 come as all zeros and leave as the sign choices. With entries of at most 5 and at most 113 places |v|² is at most 113 times 25,600, which
+// bounds entries and inner products.
 pub fn choose(s1: &[i16], s2: &[i16], list: &[u16], v1: &mut [i16], v2: &mut [i16])
     requires { ⌜ (length (now s1) ≡ dimension) × (length (now s2) ≡ dimension) × (every (within 5) (now s1) ≡ true) × (every (within 5) (now s2) ≡ true) ⌝ }
     requires { ⌜ (length (now list) ≤ 113) × (every isPlace (now list) ≡ true) ⌝ }

@@ -1,4 +1,5 @@
-// Sixteen sign choices of 39 places each on a fixed key, and the sum of the squared lengths. It is there to be counted: `valgrind --tool=callgrind`.
+// Sixteen sign choices of 39 places each on a fixed key, and the sum of the squared lengths. It is there to be counted:
+// the instructions that `valgrind --tool=callgrind --callgrind-out-file=/dev/null target/bin/choices_bench` collects, by 16.
 ghost use mathlib.Core.Path.{_≡_};
 ghost use mathlib.Core.Bool.{true};
 ghost use Prim.Native.Nat.{_<_, _≤_};

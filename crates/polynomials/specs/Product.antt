@@ -29,6 +29,6 @@ product a b = map (residue modulus) (times (map pos a) b)
 unfoldable pub shift : ℕ → List ℤ → List ℤ
 shift i s = map negℤ (drop (dimension - i) s) ++ take (dimension - i) s
 
--- 1
+-- the polynomial 1
 unfoldable pub one : List ℤ
 one = pos 1 ∷ replicate (dimension - 1) (pos 0)
