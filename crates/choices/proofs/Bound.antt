@@ -1,5 +1,5 @@
 -- The squared length of v: at most the key's for each place (demand 3; document 004, Theorem 1). Assumes nothing.
-use mathlib.Core.Path.{_≡_, refl, _∙_}
+use mathlib.Core.Path.{_≡_, refl, subst, _∙_}
 use mathlib.Core.Bool.{Bool, true, false}
 use mathlib.Core.List.{List, [], _∷_}
 use Prim.Native.Nat.{ℕ, zero, suc, _+_, _*_, _-_, _≤_}
@@ -20,6 +20,7 @@ use Rattle.choices.specs.Choices.{Pair, pair, column, squaresPair, inner
 use Rattle.choices.proofs.Pairs.{Sized}
 
 -- ---- a column has the key's size
+
 -- 512 entries
 pub sized-column : (i : ℕ) (s : Pair) → Sized s → Sized (column i s)
 sized-column i s h = record { first = length-shift i (s .first) ∙ h .first; second = length-shift i (s .second) ∙ h .second }
@@ -31,8 +32,7 @@ squares-column i s = omega (arith, squares-turned (dimension - i) (s .first), sq
 
 -- ---- one column more
 module _ (v c : Pair) (hv : Sized v) (hc : Sized c) where
-  -- 512 entries
-  pub sized-chosen : Sized (chosen v c)
+  sized-chosen : Sized (chosen v c)
   unfolding chosen
   sized-chosen =
       record {
@@ -51,34 +51,50 @@ module _ (v c : Pair) (hv : Sized v) (hc : Sized c) where
       pick false e = omega (arith, subtract-pair-bound (v .first) (c .first) (v .second) (c .second) (omega arith) (omega arith) (ltZ-no (rw e tt)))
 
 -- ---- all columns
--- 512 entries
-pub sized-zeros : Sized (pair zeros zeros)
-sized-zeros = record { first = length-replicate dimension (pos 0); second = length-replicate dimension (pos 0) }
 
--- of squared length 0
-pub squares-zeros : (n : ℕ) → squares (replicate n (pos 0)) ≡ 0
+-- 512 entries, and at most the key's squared length for each of n columns
+pub record Short (s : Pair) (n : ℕ) (v : Pair) : Type 0 where
+  pub sized : Sized v
+  pub bound : squaresPair v ≤ n * squaresPair s
+
+squares-zeros : (n : ℕ) → squares (replicate n (pos 0)) ≡ 0
 unfolding squares
 squares-zeros zero = refl
 squares-zeros (suc n) = omega (arith, squares-zeros n)
 
+-- none yet
+pub short-zeros : (s : Pair) → Short s 0 (pair zeros zeros)
+short-zeros s =
+    record {
+      sized = record { first = length-replicate dimension (pos 0); second = length-replicate dimension (pos 0) };
+      bound = omega (arith, squares-zeros dimension);
+    }
+
 module _ (s : Pair) (key : Sized s) where
-  from-bound : (l : List ℕ) (v : Pair) → Sized v
-      → Sized (chooseFrom s l v) × (squaresPair (chooseFrom s l v) ≤ squaresPair v + length l * squaresPair s)
-  unfolding chooseFrom
-  from-bound [] v h = (h, omega arith)
-  from-bound (i ∷ l) v h =
+  -- one more
+  pub short-chosen : {n : ℕ} {v : Pair} (i : ℕ) → Short s n v → Short s (suc n) (chosen v (column i s))
+  short-chosen {n} {v} i h =
       let c = column i s in
       let hc = sized-column i s key in
-      let rest = from-bound l (chosen v c) (sized-chosen v c h hc) in
-      (rest .0, omega (arith, rest .1, squares-chosen v c h hc, squares-column i s, suc-mul (length l) (squaresPair s)))
+      record {
+        sized = sized-chosen v c (h .sized) hc;
+        bound = omega (arith, h .bound, squares-chosen v c (h .sized) hc, squares-column i s, suc-mul n (squaresPair s));
+      }
+
+  short-from : (l : List ℕ) (n m : ℕ) → length l + n ≡ m → (v : Pair) → Short s n v → Short s m (chooseFrom s l v)
+  unfolding chooseFrom
+  short-from [] n m e v h = let all : n ≡ m = omega arith in subst (λ (k : ℕ). Short s k v) all h
+  short-from (i ∷ l) n m e v h = short-from l (suc n) m (omega arith) (chosen v (column i s)) (short-chosen i h)
 
   module _ (l : List ℕ) where
+    short : Short s (length l) (choices s l)
+    unfolding choices
+    short = short-from l 0 (length l) (omega arith) (pair zeros zeros) (short-zeros s)
+
     -- v1 and v2 have 512 entries
     pub choices-sized : Sized (choices s l)
-    unfolding choices
-    choices-sized = from-bound l (pair zeros zeros) sized-zeros .0
+    choices-sized = short .sized
 
     -- |v|² is at most the number of places times |s|²
     pub choices-bound : squaresPair (choices s l) ≤ length l * squaresPair s
-    unfolding choices
-    choices-bound = omega (arith, from-bound l (pair zeros zeros) sized-zeros .1, squares-zeros dimension)
+    choices-bound = short .bound

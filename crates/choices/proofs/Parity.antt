@@ -16,6 +16,7 @@ use Rattle.polynomials.proofs.Shift.{shift-keeps}
 use Rattle.vectors.specs.Places.{isPlace, rising, listed}
 use Rattle.choices.specs.Choices.{Pair, choices, zeros}
 use Rattle.choices.specs.Signs.{signedSum, signs}
+use Rattle.choices.proofs.Pairs.{Sized}
 use Rattle.choices.proofs.Sums.{choices-sums, signed-linear, signed-length, column-at, sums-keep}
 use Rattle.choices.proofs.Places.{signs-listed, signs-elsewhere}
 
@@ -26,7 +27,7 @@ odd (negsuc n) e =
     let last : n ≡ 0 = omega arith in
     rw last (record { times = negsuc 0; eq = refl })
 
-module _ (s : Pair) (l : List ℕ) (places : every isPlace l ≡ true) where
+module _ (s : Pair) (key : Sized s) (l : List ℕ) (places : every isPlace l ≡ true) where
   -- signed sums of congruent vectors are congruent
   sum-cong : (m : ℕ) (t u : List ℤ) → length t ≡ dimension → length u ≡ dimension
       → ((k : ℕ) → Cong m (getD t k (pos 0)) (getD u k (pos 0)))
@@ -40,11 +41,11 @@ module _ (s : Pair) (l : List ℕ) (places : every isPlace l ≡ true) where
             (linear-cong (signed-linear b) (r .2) (shift-keeps (Cong m) (cong-refl (pos 0)) (λ y z d. cong-neg d) t u lt lu c i k (omega arith))),
       )) s l places (length-replicate dimension (pos 0), length-replicate dimension (pos 0), cong-refl (getD zeros k (pos 0))) .2
 
-  module _ (second : length (s .second) ≡ dimension) (parity : (k : ℕ) → Cong 2 (getD (s .second) k (pos 0)) (getD one k (pos 0))) where
+  module _ (parity : (k : ℕ) → Cong 2 (getD (s .second) k (pos 0)) (getD one k (pos 0))) where
     -- v2 = c' modulo 2
     pub choices-parity : (k : ℕ) → Cong 2 (getD (choices s l .second) k (pos 0)) (getD (signs s l) k (pos 0))
     unfolding signs
-    choices-parity k = rw (choices-sums s l) (sum-cong 2 (s .second) one second length-one parity k)
+    choices-parity k = rw (choices-sums s l) (sum-cong 2 (s .second) one (key .second) length-one parity k)
 
     module _ (k : ℕ) (inside : k < dimension) where
       -- v2 is odd at the listed places of a list that rises

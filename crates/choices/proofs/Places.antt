@@ -18,7 +18,7 @@ use Rattle.vectors.specs.Places.{isPlace, rising, listed}
 use Rattle.vectors.proofs.Rising.{rising-tail}
 use Rattle.choices.specs.Choices.{Pair, pair, column, innerPair, signed, choice, chosen, zeros}
 use Rattle.choices.specs.Signs.{sumFrom, signedSum, signs}
-use Rattle.choices.proofs.Sums.{signed-length, column-at, first-place, other-places}
+use Rattle.choices.proofs.Sums.{signed-length, column-at, first-place, other-places, sums-keep}
 
 -- ---- lists that rise list a place once
 rising-after : (i k : ℕ) (l : List ℕ) → rising (i ∷ l) ≡ true → k ≤ i → listed l k ≡ false
@@ -89,6 +89,14 @@ module _ (s : Pair) (k : ℕ) (inside : k < dimension) where
           let after : listed l k ≡ false = rising-after i k l r (omega (arith, eqb-true i k same)) in
           ap natAbs (kept l (other-places i l e) after (chosen v (column i s)) next (signed-length b i x one lx length-one)) ∙ here b i place x lx same z
       pick false other n rest = rest n (elsewhere b i place x lx other ∙ z)
+
+module _ (s : Pair) (l : List ℕ) (places : every isPlace l ≡ true) where
+  -- c' has 512 entries
+  pub length-signs : length (signs s l) ≡ dimension
+  unfolding signs
+  length-signs =
+      sums-keep one one (λ n x y. length x ≡ dimension) (λ b n i x y h lx. signed-length b i x one lx length-one) s l places
+      (length-replicate dimension (pos 0))
 
 module _ (s : Pair) (l : List ℕ) (places : every isPlace l ≡ true) (k : ℕ) (inside : k < dimension) where
   -- c' is 1 or -1 at the listed places of a list that rises

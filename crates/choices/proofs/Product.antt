@@ -16,9 +16,10 @@ use Rattle.polynomials.proofs.Times.{times-zero, times-linear, times-shift}
 use Rattle.vectors.specs.Places.{isPlace}
 use Rattle.choices.specs.Choices.{Pair, pair, choices}
 use Rattle.choices.specs.Signs.{signedSum, signs}
+use Rattle.choices.proofs.Pairs.{Sized}
 use Rattle.choices.proofs.Sums.{choices-sums, signed-linear, signed-length, sums-keep}
 
-module _ (s : Pair) (l : List ℕ) (places : every isPlace l ≡ true) where
+module _ (s : Pair) (key : Sized s) (l : List ℕ) (places : every isPlace l ≡ true) where
   -- the signed sum of x^i a is a times c'
   sum-times : (a : List ℤ) → length a ≡ dimension → signedSum s l a ≡ times a (signs s l)
   unfolding signs
@@ -30,18 +31,16 @@ module _ (s : Pair) (l : List ℕ) (places : every isPlace l ≡ true) where
         ap₂ (zipWith _) (r .1) (sym place) ∙ sym (times-linear a la y (shift i one) (r .0) (length-shift i one ∙ length-one) (signed-linear b)),
       )) s l places (length-replicate dimension (pos 0), sym (times-zero a la)) .1
 
-  module _ (first : length (s .first) ≡ dimension) (second : length (s .second) ≡ dimension) where
-    -- v = S c': v1 = s1 c' and v2 = s2 c'
-    pub choices-product : choices s l ≡ pair (times (s .first) (signs s l)) (times (s .second) (signs s l))
-    choices-product = choices-sums s l ∙ ap₂ pair (sum-times (s .first) first) (sum-times (s .second) second)
+  -- v = S c': v1 = s1 c' and v2 = s2 c'
+  pub choices-product : choices s l ≡ pair (times (s .first) (signs s l)) (times (s .second) (signs s l))
+  choices-product = choices-sums s l ∙ ap₂ pair (sum-times (s .first) (key .first)) (sum-times (s .second) (key .second))
 
   -- if a s1 = s2 modulo q, then a v1 = v2 modulo q
-  pub choices-carries : (a : List ℕ) → length a ≡ dimension → length (s .first) ≡ dimension
-      → Carries a (s .first) (s .second) → Carries a (choices s l .first) (choices s l .second)
-  choices-carries a la ls c =
+  pub choices-carries : (a : List ℕ) → length a ≡ dimension → Carries a (s .first) (s .second) → Carries a (choices s l .first) (choices s l .second)
+  choices-carries a la c =
       rw (choices-sums s l)
       (sums-keep (s .first) (s .second) (λ n x y. (length x ≡ dimension) × Carries a x y)
       (λ b n i x y h r. (
-        signed-length b i x (s .first) (r .0) ls,
-        carries-linear a la (r .0) (length-shift i (s .first) ∙ ls) (r .1) (carries-shift a la i (omega arith) ls c) (signed-linear b),
+        signed-length b i x (s .first) (r .0) (key .first),
+        carries-linear a la (r .0) (length-shift i (s .first) ∙ key .first) (r .1) (carries-shift a la i (omega arith) (key .first) c) (signed-linear b),
       )) s l places (length-replicate dimension (pos 0), carries-zero a la) .1)

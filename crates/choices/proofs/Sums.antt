@@ -83,7 +83,7 @@ module _ (t u : List ℤ) (R : ℕ → List ℤ → List ℤ → Type 0)
   sums-keep s l e r = keep-from s l e (pair zeros zeros) 0 (length l) (omega arith) zeros zeros r
 
 -- ---- entries
-module _ (s : Pair) (l : List ℕ) (places : every isPlace l ≡ true) where
+module _ (s : Pair) (key : Sized s) (l : List ℕ) (places : every isPlace l ≡ true) where
   sum-entries : (t : List ℤ) (bound : ℕ) → length t ≡ dimension → ((k : ℕ) → natAbs (getD t k (pos 0)) ≤ bound)
       → (k : ℕ) → natAbs (getD (signedSum s l t) k (pos 0)) ≤ length l * bound
   sum-entries t bound lt small k =
@@ -105,9 +105,8 @@ module _ (s : Pair) (l : List ℕ) (places : every isPlace l ≡ true) where
       more b n i x h lx r =
           omega (arith, signed-within b x (shift i t) (column-same i x t lx lt) k (n * bound) bound r (entry i h), suc-mul n bound)
 
-  module _ (bound : ℕ) (key : Sized s) (small : Within bound s) where
-    -- each entry of v1 and of v2 is at most a column's for each place
-    pub choices-within : Within (length l * bound) (choices s l)
-    choices-within =
-        rw (choices-sums s l)
-        (record { first = sum-entries (s .first) bound (key .first) (small .first); second = sum-entries (s .second) bound (key .second) (small .second) })
+  -- each entry of v1 and of v2 is at most a column's for each place
+  pub choices-within : (bound : ℕ) → Within bound s → Within (length l * bound) (choices s l)
+  choices-within bound small =
+      rw (choices-sums s l)
+      (record { first = sum-entries (s .first) bound (key .first) (small .first); second = sum-entries (s .second) bound (key .second) (small .second) })

@@ -125,7 +125,7 @@ step-requires : tie.Need-step-requires Inv-loop μ-loop
 step-requires c κs =
     let l = c .before .before .before .before .before .before .before in
     let s = start l in
-    let v = l .before .loop .inv .1 .sized in
+    let v = l .before .loop .inv .1 .short .sized in
     let w = sized-column (place l) (key s) (sized s) in (
       (v .first, v .second, ap length (first-part l) ∙ w .first, ap length (second-part l) ∙ w .second),
       omega (
@@ -153,10 +153,10 @@ loop-again c =
     )
 
 same-length : tie.Need-same-length Inv-loop μ-loop
-same-length c = c .before .loop .inv .1 .sized .first ∙ sym (ap length (c .before .before .before .before .before .before .before .before .before .pre .1 .1 .0))
+same-length c = c .before .loop .inv .1 .short .sized .first ∙ sym (ap length (c .before .before .before .before .before .before .before .before .before .pre .1 .1 .0))
 
 same-length-2 : tie.Need-same-length-2 Inv-loop μ-loop
-same-length-2 c = c .before .loop .inv .1 .sized .second ∙ sym (ap length (c .before .before .before .before .before .before .before .before .before .pre .1 .1 .1))
+same-length-2 c = c .before .loop .inv .1 .short .sized .second ∙ sym (ap length (c .before .before .before .before .before .before .before .before .before .pre .1 .1 .1))
 
 returns : tie.Need-returns Inv-loop μ-loop
 returns c = walk-end (key (c .before .before .before .before .before .before .before .before .before)) _ (c .before .loop .inv .1) (omega arith)
