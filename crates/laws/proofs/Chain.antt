@@ -16,6 +16,11 @@ module _ {ℓ} {A : Type ℓ} where
   pub pass : (r s : Bool) (x refusal next : A) → r ≡ s → not r ≡ false → x ≡ next → x ≡ must s refusal next
   pass r s x refusal next e t k = rw (sym e ∙ not-false r t) k
 
+-- a statement about what a chain answers, from both ways of its first test
+pub must-cases {ℓ} : {A : Type ℓ} (P : A → Type 0) (test : Bool) (refusal next : A) → (test ≡ true → P next) → (test ≡ false → P refusal) → P (must test refusal next)
+must-cases P true refusal next p q = p refl
+must-cases P false refusal next p q = q refl
+
 pub failed : {r s : Bool} → r ≡ s → not r ≡ true → s ≡ false
 failed {r} e t = sym e ∙ not-true r t
 
