@@ -1,8 +1,7 @@
 -- The rebuild and the comparison (01, "Rebuild", "Comparison" and "Numbers that come back").
-use mathlib.Core.Bool.{Bool, false, cond, _&&_, _||_}
-use mathlib.Core.List.{List, [], _∷_}
+use mathlib.Core.Bool.{cond, _&&_}
+use mathlib.Core.List.{List}
 use Prim.Native.Nat.{ℕ}
-use lib.Dec.{eqb}
 use lib.IntN.{ℤ, pos}
 use Rattle.laws.specs.Lists.{every, same, zipWith, tabulate}
 use Rattle.laws.specs.Refusals.{must}
@@ -12,15 +11,10 @@ use Rattle.answers.specs.declared.Outcome.{Outcome}
 use Rattle.answers.specs.declared.Outcome.the-variants.{Done, UnknownSet, WrongLength, CoefficientOutside, ImproperList, ListsDiffer}
 use Rattle.answers.specs.Outcomes.{unless, forSet, Filled, filled}
 use Rattle.rounding.specs.Rounding.{restored}
-use Rattle.vectors.specs.Places.{properList}
+use Rattle.vectors.specs.Places.{properList, listed}
 use Rattle.limits.specs.LengthRule.{lengthRule}
 use Rattle.keys.specs.Key.{isResidue, sized}
 use Rattle.commitment.specs.Commitment.{sums}
-
--- whether place k is listed
-unfoldable pub listed : List ℕ → ℕ → Bool
-listed [] k = false
-listed (i ∷ l) k = eqb i k || listed l k
 
 -- 12289 at each listed place
 unfoldable pub marks : List ℕ → List ℤ

@@ -45,7 +45,7 @@ module _ (l : List ℕ) (i : ℕ) (so : rising l ≡ rising (drop i l)) where
   rise-ends h = sym (so ∙ short (drop i l) (omega (arith, length-drop i l)))
 
 -- ---- the places of a list that rises
-rising-tail : (i : ℕ) (l : List ℕ) → rising (i ∷ l) ≡ true → rising l ≡ true
+pub rising-tail : (i : ℕ) (l : List ℕ) → rising (i ∷ l) ≡ true → rising l ≡ true
 unfolding rising
 rising-tail i [] e = refl
 rising-tail i (j ∷ l) e = and-right (ltb i j) (rising (j ∷ l)) e
@@ -78,3 +78,9 @@ module _ (s : Set) (l : List ℕ) (proper : properList s l ≡ true) where
 
   pub proper-place : (k : ℕ) → k < length l → getD l k 0 < dimension
   proper-place k h = ltb-true _ _ (every-at isPlace l k 0 (and-right (rising l) _ order) h)
+
+  pub proper-rises : rising l ≡ true
+  proper-rises = and-left (rising l) (every isPlace l) order
+
+  pub proper-places : every isPlace l ≡ true
+  proper-places = and-right (rising l) (every isPlace l) order
