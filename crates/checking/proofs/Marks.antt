@@ -14,7 +14,8 @@ use lib.Seq.{take-suc, take-all, getD-set-same, getD-set-other}
 use Rattle.laws.specs.Lists.{tabulate}
 use Rattle.laws.proofs.Entries.{is-tabulate, getD-tabulate, length-tabulate}
 use Rattle.sets.specs.Numbers.{dimension, modulus}
-use Rattle.checking.specs.Checking.{listed, marks}
+use Rattle.vectors.specs.Places.{listed}
+use Rattle.checking.specs.Checking.{marks}
 
 abbrev pub mark : List ℕ → ℕ → ℤ
 mark l k = cond (listed l k) (pos modulus) (pos 0)

@@ -5,7 +5,8 @@ use Rattle.laws.proofs.Chain.{passed}
 use Rattle.sets.specs.Numbers.{dimension}
 use Rattle.answers.proofs.Calls.{calls, done-is}
 use Rattle.keys.proofs.Ranges.{sized-four}
-use Rattle.checking.proofs.Admitted.{proper-places, dagger-below}
+use Rattle.vectors.proofs.Rising.{proper-places}
+use Rattle.checking.proofs.Admitted.{dagger-below}
 use borrow.Author.Needs.{needs}
 use Rattle.checking.proofs.rebuild_for.Statement.{statement}
 use Rattle.checking.proofs.rebuild_for.Tie as tie
