@@ -1,6 +1,8 @@
 -- The ways on through a call: the set that was asked for, and an outcome that refuses or does not. Assumes nothing.
 use mathlib.Core.Path.{_≡_, refl, sym, ap, _∙_}
 use mathlib.Core.Bool.{Bool, true, false, not}
+use mathlib.Core.List.{List}
+use Prim.Native.Nat.{ℕ}
 use borrow.Author.Tests.{not-true, not-false, eqb-true}
 use Rattle.laws.specs.Refusals.{must}
 use Rattle.laws.proofs.Chain as Chain
@@ -9,7 +11,7 @@ use Rattle.sets.specs.declared.Asked.{Asked}
 use Rattle.sets.specs.declared.Asked.the-variants.{Known, Unknown}
 use Rattle.answers.specs.declared.Outcome.{Outcome}
 use Rattle.answers.specs.declared.Outcome.the-variants.{Done, UnknownSet, WrongLength, CoefficientOutside, MaskOutside, ImproperList, RelationBroken, KeyTooLong, Rejected, WordMissing, EntryBeyond, SumAbove, ListsDiffer, HeaderMalformed, OutputShort}
-use Rattle.answers.specs.Outcomes.{numberOf, isDone, unless, forSet}
+use Rattle.answers.specs.Outcomes.{numberOf, isDone, unless, forSet, Filled, filled}
 
 module _ {ℓ} {A : Type ℓ} where
   pub refused : (r : Bool) (o s : Outcome) (answer : Outcome → A) (x next : A) → o ≡ s → r ≡ isDone o → not r ≡ true → x ≡ answer o → x ≡ unless s answer next
@@ -23,6 +25,10 @@ module _ {ℓ} {A : Type ℓ} where
 
   pub known : (r s : Asked) (m : Set) (x refusal : A) (next : Set → A) → r ≡ s → r ≡ Known m → x ≡ next m → x ≡ forSet s refusal next
   known r s m x refusal next e f h = rw (sym e ∙ f) h
+
+-- a vector that was written
+pub filled-at : (o : Outcome) (x y : List ℕ) → x ≡ y → filled o x ≡ filled o y
+filled-at o x y e = ap (filled o) e
 
 -- the only outcome that is done
 pub done-is : (o : Outcome) → isDone o ≡ true → o ≡ Done
@@ -52,4 +58,4 @@ module _ (refusal next : Outcome) (no-refusal : isDone refusal ≡ false) where
   done-next true e = e
   done-next false e = absurd (Chain.differ (sym no-refusal ∙ e))
 
-pub ruleset calls = (Chain.calls, refused, admitted, unknown, known)
+pub ruleset calls = (Chain.calls, refused, admitted, unknown, known, filled-at)

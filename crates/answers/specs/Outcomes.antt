@@ -1,5 +1,6 @@
 -- The paper's number and place for each outcome, and how a call's refusals go on from one to the next.
 use mathlib.Core.Bool.{Bool}
+use mathlib.Core.List.{List}
 use Prim.Native.Nat.{ℕ}
 use lib.Dec.{eqb}
 use Rattle.laws.specs.Refusals.{must}
@@ -56,3 +57,7 @@ unless o answer next = must (isDone o) (answer o) next
 abbrev pub forSet {ℓ} : {A : Type ℓ} → Asked → A → (Set → A) → A
 forSet Unknown refusal next = refusal
 forSet (Known s) refusal next = next s
+
+-- what a call leaves behind that fills one vector: the outcome, and the vector's contents
+pub data Filled : Type 0 where
+  filled : Outcome → List ℕ → Filled

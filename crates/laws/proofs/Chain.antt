@@ -5,7 +5,8 @@ use mathlib.Core.Bool.{Bool, true, false, not, _&&_}
 use Prim.Native.Nat.{ℕ}
 use native.Mathlib.Omega.{arith}
 use borrow.Author.Needs.{needs}
-use borrow.Author.Tests.{not-true, not-false}
+use borrow.Author.Tests.{not-true, not-false, eq-eqb, ne-eqb}
+use lib.Dec.{eqb}
 use Rattle.laws.specs.Refusals.{must}
 
 -- the test answered r, which its contract says is s
@@ -15,6 +16,11 @@ module _ {ℓ} {A : Type ℓ} where
 
   pub pass : (r s : Bool) (x refusal next : A) → r ≡ s → not r ≡ false → x ≡ next → x ≡ must s refusal next
   pass r s x refusal next e t k = rw (sym e ∙ not-false r t) k
+
+-- a statement about what a chain answers, from both ways of its first test
+pub must-cases {ℓ} : {A : Type ℓ} (P : A → Type 0) (test : Bool) (refusal next : A) → (test ≡ true → P next) → (test ≡ false → P refusal) → P (must test refusal next)
+must-cases P true refusal next p q = p refl
+must-cases P false refusal next p q = q refl
 
 pub failed : {r s : Bool} → r ≡ s → not r ≡ true → s ≡ false
 failed {r} e t = sym e ∙ not-true r t
@@ -34,4 +40,18 @@ and-right true q e = e
 and-right false true e = refl
 and-right false false e = e
 
-pub ruleset calls = (needs, stop, pass)
+-- a chain of tests that answers whether all hold
+pub all-stop : (r s t : Bool) → r ≡ s → not r ≡ true → false ≡ s && t
+all-stop r s t e h = rw (failed {r = r} {s = s} e h)
+
+pub all-pass : (r s t x : Bool) → r ≡ s → not r ≡ false → x ≡ t → x ≡ s && t
+all-pass r s t x e h k = rw (passed {r = r} {s = s} e h) k
+
+-- the same with numbers that must be equal
+pub unequal-stop : (m n : ℕ) (t : Bool) → (m ≡ n → ⊥) → false ≡ eqb m n && t
+unequal-stop m n t h = rw (ne-eqb m n h)
+
+pub equal-pass : (m n : ℕ) (t x : Bool) → m ≡ n → x ≡ t → x ≡ eqb m n && t
+equal-pass m n t x h k = rw (eq-eqb m n h) k
+
+pub ruleset calls = (needs, stop, pass, all-stop, all-pass, unequal-stop, equal-pass)

@@ -25,6 +25,16 @@ module _ {A B C : Type 0} (f : A → B → C) where
   getD-zipWith (x ∷ xs) (y ∷ ys) zero a b c h j = refl
   getD-zipWith (x ∷ xs) (y ∷ ys) (suc k) a b c h j = getD-zipWith xs ys k a b c (le-of-suc-le-suc h) (le-of-suc-le-suc j)
 
+  -- the values where there is no entry are joined too
+  pub getD-zipWith-anywhere : (xs : List A) (ys : List B) (k : ℕ) (a : A) (b : B) → length xs ≡ length ys
+      → getD (zipWith f xs ys) k (f a b) ≡ f (getD xs k a) (getD ys k b)
+  unfolding zipWith
+  getD-zipWith-anywhere [] [] k a b e = refl
+  getD-zipWith-anywhere [] (y ∷ ys) k a b e = absurd (suc-ne-zero (length ys) (sym e))
+  getD-zipWith-anywhere (x ∷ xs) [] k a b e = absurd (suc-ne-zero (length xs) e)
+  getD-zipWith-anywhere (x ∷ xs) (y ∷ ys) zero a b e = refl
+  getD-zipWith-anywhere (x ∷ xs) (y ∷ ys) (suc k) a b e = getD-zipWith-anywhere xs ys k a b (suc-inj e)
+
   pub zipWith-append : (xs xs′ : List A) (ys ys′ : List B) → length xs ≡ length ys
       → zipWith f (xs ++ xs′) (ys ++ ys′) ≡ zipWith f xs ys ++ zipWith f xs′ ys′
   unfolding zipWith
@@ -32,6 +42,12 @@ module _ {A B C : Type 0} (f : A → B → C) where
   zipWith-append [] xs′ (y ∷ ys) ys′ e = absurd (suc-ne-zero (length ys) (sym e))
   zipWith-append (x ∷ xs) xs′ [] ys′ e = absurd (suc-ne-zero (length xs) e)
   zipWith-append (x ∷ xs) xs′ (y ∷ ys) ys′ e = ap (λ (l : List C). f x y ∷ l) (zipWith-append xs xs′ ys ys′ (suc-inj e))
+
+-- an entry of a mapped vector, whatever stands for no entry
+pub getD-map : {A B : Type 0} (f : A → B) (xs : List A) (k : ℕ) (a : A) (b : B) → k < length xs → getD (map f xs) k b ≡ f (getD xs k a)
+getD-map f [] k a b h = absurd (not-suc-le-zero h)
+getD-map f (x ∷ xs) zero a b h = refl
+getD-map f (x ∷ xs) (suc k) a b h = getD-map f xs k a b (le-of-suc-le-suc h)
 
 module _ {A : Type 0} where
   pub length-tabulate : (rule : ℕ → A) (n : ℕ) → length (tabulate rule n) ≡ n

@@ -1,14 +1,18 @@
--- What a loop over a vector has done once it has passed i entries: it rewrites them (`Rewritten`), or it scans them (`Scanned`). Assumes nothing.
-use mathlib.Core.Path.{_≡_, refl, sym, ap, _∙_}
+-- What a loop over a vector has done once it has passed i entries: it rewrites them (`Rewritten`), scans them, or
+-- compares them with another's. Assumes nothing.
+use mathlib.Core.Path.{_≡_, refl, sym, ap, ap₂, _∙_}
 use mathlib.Core.Bool.{Bool, true, false, _&&_}
 use mathlib.Core.List.{List, [], _∷_, _++_, append-nil}
 use Prim.Native.Nat.{ℕ, zero, suc, _+_, _<_, _≤_}
 use native.Mathlib.Nat.{not-suc-le-zero, le-of-suc-le-suc, suc-inj, suc-ne-zero}
 use native.Mathlib.Numerals.{add-one}
 use native.Mathlib.Omega.{arith}
+use borrow.Author.Tests.{eq-eqb, ne-eqb, eqb-true}
+use lib.Dec.{eqb}
 use lib.ListN.{length, take, drop, getD, set, length-take, length-drop, length-append, length-set, drop-of-length-le}
 use lib.Seq.{take-all, drop-cons}
-use Rattle.laws.specs.Lists.{every}
+use Rattle.laws.specs.Lists.{every, same}
+use Rattle.laws.proofs.Chain.{differ, and-left, and-right}
 
 -- ---- rewriting: l is being replaced by w from the left; the first i entries are w's, and the others are l's still
 module _ {A : Type 0} where
@@ -65,3 +69,37 @@ module _ {A : Type 0} (test : A → Bool) (d : A) (xs : List A) (i : ℕ) (so : 
   pub scan-ends : length xs ≤ i → true ≡ every test xs
   unfolding every
   scan-ends h = sym (so ∙ rw (drop-of-length-le xs h))
+
+-- ---- comparing: two vectors are the same where what is left of them is
+module _ (xs ys : List ℕ) (long : length xs ≡ length ys) (i : ℕ) (so : same xs ys ≡ same (drop i xs) (drop i ys)) where
+  pub same-stops : i < length xs → (getD xs i 0 ≡ getD ys i 0 → ⊥) → false ≡ same xs ys
+  unfolding same
+  same-stops h n =
+      let k : i < length ys = omega arith in
+      sym (so ∙ rw (drop-cons xs i 0, drop-cons ys i 0, ne-eqb _ _ n))
+
+  pub same-passes : i < length xs → getD xs i 0 ≡ getD ys i 0 → same xs ys ≡ same (drop (i + 1) xs) (drop (i + 1) ys)
+  unfolding same
+  same-passes h e =
+      let k : i < length ys = omega arith in
+      so ∙ rw (add-one, drop-cons xs i 0, drop-cons ys i 0, eq-eqb _ _ e)
+
+  pub same-ends : length xs ≤ i → true ≡ same xs ys
+  unfolding same
+  same-ends h =
+      let k : length ys ≤ i = omega arith in
+      sym (so ∙ rw (drop-of-length-le xs h, drop-of-length-le ys k))
+
+-- what the test says
+pub same-is : (xs ys : List ℕ) → same xs ys ≡ true → xs ≡ ys
+unfolding same
+same-is [] [] e = refl
+same-is [] (y ∷ ys) e = absurd (differ e)
+same-is (x ∷ xs) [] e = absurd (differ e)
+same-is (x ∷ xs) (y ∷ ys) e =
+    ap₂ _∷_ (eqb-true x y (and-left (eqb x y) (same xs ys) e)) (same-is xs ys (and-right (eqb x y) (same xs ys) e))
+
+pub is-same : (xs : List ℕ) → same xs xs ≡ true
+unfolding same
+is-same [] = refl
+is-same (x ∷ xs) = rw (eq-eqb x x refl) (is-same xs)

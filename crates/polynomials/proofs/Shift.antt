@@ -2,9 +2,10 @@
 use mathlib.Core.Path.{_≡_, sym, ap, ap₂, _∙_}
 use mathlib.Core.List.{List, [], _∷_, _++_, map, append-assoc}
 use Prim.Native.Nat.{ℕ, suc, _+_, _-_, _<_, _≤_}
+use native.Mathlib.Decide.{decLt}
 use native.Mathlib.Omega.{arith}
 use lib.IntN.{ℤ, pos, negℤ, _+ℤ_, _-ℤ_}
-use lib.ListN.{length, take, drop, getD, length-map, length-append, length-take, length-drop, drop-of-length-le, List·getD-append, List·getD-map}
+use lib.ListN.{length, take, drop, getD, length-map, length-append, length-take, length-drop, drop-of-length-le, List·getD-append, List·getD-map, List·getD-eq-default}
 use lib.Seq.{take-all, take-suc, take-at, getD-at, getD-take, getD-drop, drop-cons, getD-append-add, take-append-add, drop-append-le}
 use Rattle.laws.specs.Lists.{zipWith}
 use Rattle.laws.proofs.Entries.{zipWith-append}
@@ -69,6 +70,21 @@ module _ (i : ℕ) (s : List ℤ) (e : length s ≡ 512) where
       let long : length front + n ≡ 512 = omega (arith, length-drop n (map negℤ s), length-map s negℤ) in
       sym (ap₂ take (sym long) (drop-append-le n (map negℤ s) s (omega (arith, length-map s negℤ))) ∙ take-append-add front s n
       ∙ ap (λ (f : List ℤ). f ++ take n s) (sym (map-drop negℤ n s)))
+
+-- what holds of all entries of two vectors, place by place, and of turned signs, holds of all entries of their shifts
+module _ (R : ℤ → ℤ → Type 0) (none : R (pos 0) (pos 0)) (turned : (y z : ℤ) → R y z → R (negℤ y) (negℤ z)) where
+  pub shift-keeps : (s t : List ℤ) → length s ≡ 512 → length t ≡ 512 → ((k : ℕ) → R (getD s k (pos 0)) (getD t k (pos 0)))
+      → (i k : ℕ) → i ≤ 512 → R (getD (shift i s) k (pos 0)) (getD (shift i t) k (pos 0))
+  shift-keeps s t ls lt at i k h = pick (decLt k i) (decLt k 512)
+    where
+      pick : Dec (k < i) → Dec (k < 512) → R (getD (shift i s) k (pos 0)) (getD (shift i t) k (pos 0))
+      pick (yes low) d = rw (shift-low i s ls k h low, shift-low i t lt k h low) (turned _ _ (at (512 - i + k)))
+      pick (no high) (yes below) = rw (shift-high i s ls k (omega arith) below, shift-high i t lt k (omega arith) below) (at (k - i))
+      pick (no high) (no beyond) =
+          rw (
+            List·getD-eq-default (shift i s) (pos 0) {n = k} (omega (arith, length-shift i s)),
+            List·getD-eq-default (shift i t) (pos 0) {n = k} (omega (arith, length-shift i t)),
+          ) none
 
 -- ---- x over and over
 

@@ -1,10 +1,10 @@
 -- Polynomials of 512 coefficients, with x^512 = -1 (01, "Parameters" and "Ring arithmetic"): the coefficient before x^k stands at place k.
 use mathlib.Core.Bool.{cond}
-use mathlib.Core.List.{List, _++_, map}
+use mathlib.Core.List.{List, _∷_, _++_, map}
 use Prim.Native.Nat.{ℕ, _+_, _-_}
 use lib.Dec.{leb}
 use lib.IntN.{ℤ, pos, negℤ, _*ℤ_}
-use lib.ListN.{getD, take, drop}
+use lib.ListN.{getD, take, drop, replicate}
 use Rattle.laws.specs.Integers.{residue, sumℤ}
 use Rattle.laws.specs.Lists.{tabulate}
 use Rattle.sets.specs.Numbers.{dimension, modulus}
@@ -28,3 +28,7 @@ product a b = map (residue modulus) (times (map pos a) b)
 -- x^i times s, for i up to 512
 unfoldable pub shift : ℕ → List ℤ → List ℤ
 shift i s = map negℤ (drop (dimension - i) s) ++ take (dimension - i) s
+
+-- the polynomial 1
+unfoldable pub one : List ℤ
+one = pos 1 ∷ replicate (dimension - 1) (pos 0)

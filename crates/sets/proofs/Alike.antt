@@ -54,6 +54,10 @@ kappa-within = each _ (lit≤ tt) (lit≤ tt) (lit≤ tt) (lit≤ tt)
 pub largest-small : (s : Set) → largestOf s < 2 ^ 15
 largest-small = each _ (lit< tt) (lit< tt) (lit< tt) (lit< tt)
 
+-- so that a z2 dagger that the length rule passes is below p
+pub largest-below-spread : (s : Set) → largestOf s < pOf s * 2 ^ dOf s
+largest-below-spread = each _ (lit< tt) (lit< tt) (lit< tt) (lit< tt)
+
 pub key-limit-small : (s : Set) → keyLimitOf s ≤ 1784
 key-limit-small = each _ (lit≤ tt) (lit≤ tt) (lit≤ tt) (lit≤ tt)
 

@@ -30,7 +30,7 @@ impl Set {
     pub const FACTOR: u32 = 12288;
 
     // The largest coefficient of a mask, either way.
-    pub const MASK_LIMIT: i16 = 4096;
+    pub const MASK_LIMIT: u32 = 4096;
 
     // The binary places that a trial visits, and the thresholds.
     pub const PLACES: usize = 31;

@@ -1,5 +1,5 @@
 -- The form of a challenge list (01, "Response"): exactly kappa places, strictly rising, each below 512.
-use mathlib.Core.Bool.{Bool, true, _&&_}
+use mathlib.Core.Bool.{Bool, true, false, _&&_, _||_}
 use mathlib.Core.List.{List, [], _∷_}
 use Prim.Native.Nat.{ℕ}
 use lib.Dec.{eqb, ltb}
@@ -18,3 +18,8 @@ rising (i ∷ j ∷ l) = ltb i j && rising (j ∷ l)
 
 unfoldable pub properList : Set → List ℕ → Bool
 properList s l = eqb (length l) (kappaOf s) && (rising l && every isPlace l)
+
+-- whether place k is listed
+unfoldable pub listed : List ℕ → ℕ → Bool
+listed [] k = false
+listed (i ∷ l) k = eqb i k || listed l k

@@ -1,0 +1,2 @@
+-- 01, "Rebuild" and "Comparison".
+pub mod Checking

@@ -1,0 +1,112 @@
+-- v1 and v2 are sums of columns with the same signs: what every column keeps, whatever its sign, holds of them. Assumes nothing.
+use mathlib.Core.Path.{_≡_, refl, sym, subst, _∙_}
+use mathlib.Core.Bool.{Bool, true, false}
+use mathlib.Core.List.{List, [], _∷_}
+use Prim.Native.Nat.{ℕ, zero, suc, _+_, _*_, _<_, _≤_}
+use native.Mathlib.Nat.{suc-mul}
+use native.Mathlib.Omega.{arith}
+use borrow.Author.Tests.{ltb-true}
+use lib.IntN.{ℤ, pos, natAbs}
+use lib.ListN.{length, getD, replicate, length-replicate}
+use lib.Signed.{ltZ}
+use Rattle.laws.specs.Lists.{every, zipWith}
+use Rattle.laws.proofs.Bounds.{abs-neg}
+use Rattle.laws.proofs.Chain.{and-left, and-right}
+use Rattle.laws.proofs.Entries.{length-zipWith}
+use Rattle.sets.specs.Numbers.{dimension}
+use Rattle.polynomials.specs.Product.{shift}
+use Rattle.polynomials.proofs.Operations.{Linear, plus, minus}
+use Rattle.polynomials.proofs.Shift.{length-shift, shift-keeps}
+use Rattle.vectors.specs.Places.{isPlace}
+use Rattle.choices.specs.Choices.{Pair, pair, column, innerPair, signed, choice, chosen, chooseFrom, choices, zeros}
+use Rattle.choices.specs.Signs.{sumFrom, signedSum}
+use Rattle.choices.proofs.Pairs.{Sized, Within, signed-at, signed-within}
+
+-- ---- v1 and v2 are signed sums
+choose-sums : (s : Pair) (l : List ℕ) (v : Pair)
+    → chooseFrom s l v ≡ pair (sumFrom s l v (s .first) (v .first)) (sumFrom s l v (s .second) (v .second))
+unfolding chooseFrom sumFrom chosen
+choose-sums s [] v = refl
+choose-sums s (i ∷ l) v = choose-sums s l (chosen v (column i s))
+
+-- v1 and v2, with the same signs
+pub choices-sums : (s : Pair) (l : List ℕ) → choices s l ≡ pair (signedSum s l (s .first)) (signedSum s l (s .second))
+unfolding choices signedSum
+choices-sums s l = choose-sums s l (pair zeros zeros)
+
+-- ---- one column more
+-- the operation is linear
+pub signed-linear : (b : Bool) → Linear (signed b)
+signed-linear true = plus
+signed-linear false = minus
+
+column-same : (i : ℕ) (x t : List ℤ) → length x ≡ dimension → length t ≡ dimension → length x ≡ length (shift i t)
+column-same i x t lx lt = lx ∙ sym (length-shift i t ∙ lt)
+
+-- a column keeps the length
+pub signed-length : (b : Bool) (i : ℕ) (x t : List ℤ) → length x ≡ dimension → length t ≡ dimension
+    → length (zipWith (signed b) x (shift i t)) ≡ dimension
+signed-length b i x t lx lt = length-zipWith (signed b) x (shift i t) (column-same i x t lx lt) ∙ lx
+
+-- and changes each entry by its own
+pub column-at : (b : Bool) (i : ℕ) (x t : List ℤ) → length x ≡ dimension → length t ≡ dimension → (k : ℕ)
+    → getD (zipWith (signed b) x (shift i t)) k (pos 0) ≡ signed b (getD x k (pos 0)) (getD (shift i t) k (pos 0))
+column-at b i x t lx lt k = signed-at b x (shift i t) (column-same i x t lx lt) k
+
+-- ---- a list of places
+-- the first is a place
+pub first-place : (i : ℕ) (l : List ℕ) → every isPlace (i ∷ l) ≡ true → i < dimension
+unfolding every
+first-place i l e = ltb-true i dimension (and-left (isPlace i) (every isPlace l) e)
+
+-- and so are the others
+pub other-places : (i : ℕ) (l : List ℕ) → every isPlace (i ∷ l) ≡ true → every isPlace l ≡ true
+unfolding every
+other-places i l e = and-right (isPlace i) (every isPlace l) e
+
+-- ---- all columns: what relates two sums with the same signs, over t and over u, after n columns
+module _ (t u : List ℤ) (R : ℕ → List ℤ → List ℤ → Type 0)
+    (step : (b : Bool) (n i : ℕ) (x y : List ℤ) → i < dimension → R n x y
+    → R (suc n) (zipWith (signed b) x (shift i t)) (zipWith (signed b) y (shift i u))) where
+  keep-from : (s : Pair) (l : List ℕ) → every isPlace l ≡ true → (v : Pair) (n m : ℕ) → length l + n ≡ m → (x y : List ℤ) → R n x y
+      → R m (sumFrom s l v t x) (sumFrom s l v u y)
+  unfolding sumFrom
+  keep-from s [] e v n m c x y r = let all : n ≡ m = omega arith in subst (λ (k : ℕ). R k x y) all r
+  keep-from s (i ∷ l) e v n m c x y r =
+      keep-from s l (other-places i l e) (chosen v (column i s)) (suc n) m (omega arith)
+      (zipWith (choice v (column i s)) x (shift i t)) (zipWith (choice v (column i s)) y (shift i u))
+      (step (ltZ (innerPair v (column i s)) (pos 0)) n i x y (first-place i l e) r)
+
+  -- what each column keeps, whatever its sign, holds at the end
+  pub sums-keep : (s : Pair) (l : List ℕ) → every isPlace l ≡ true → R 0 zeros zeros → R (length l) (signedSum s l t) (signedSum s l u)
+  unfolding signedSum
+  sums-keep s l e r = keep-from s l e (pair zeros zeros) 0 (length l) (omega arith) zeros zeros r
+
+-- ---- entries
+module _ (s : Pair) (key : Sized s) (l : List ℕ) (places : every isPlace l ≡ true) where
+  sum-entries : (t : List ℤ) (bound : ℕ) → length t ≡ dimension → ((k : ℕ) → natAbs (getD t k (pos 0)) ≤ bound)
+      → (k : ℕ) → natAbs (getD (signedSum s l t) k (pos 0)) ≤ length l * bound
+  sum-entries t bound lt small k =
+      sums-keep t t (λ n x y. (length x ≡ dimension) × (natAbs (getD x k (pos 0)) ≤ n * bound))
+      (λ b n i x y h r. (signed-length b i x t (r .0) lt, more b n i x h (r .0) (r .1))) s l places
+      (length-replicate dimension (pos 0), none dimension k) .1
+    where
+      none : (n k : ℕ) → natAbs (getD (replicate n (pos 0)) k (pos 0)) ≤ 0 * bound
+      none zero k = omega arith
+      none (suc n) zero = omega arith
+      none (suc n) (suc k) = none n k
+
+      entry : (i : ℕ) → i < dimension → natAbs (getD (shift i t) k (pos 0)) ≤ bound
+      entry i h =
+          shift-keeps (λ y z. natAbs y ≤ bound) (omega arith) (λ y z h. omega (arith, abs-neg y)) t t lt lt small i k (omega arith)
+
+      more : (b : Bool) (n i : ℕ) (x : List ℤ) → i < dimension → length x ≡ dimension → natAbs (getD x k (pos 0)) ≤ n * bound
+          → natAbs (getD (zipWith (signed b) x (shift i t)) k (pos 0)) ≤ suc n * bound
+      more b n i x h lx r =
+          omega (arith, signed-within b x (shift i t) (column-same i x t lx lt) k (n * bound) bound r (entry i h), suc-mul n bound)
+
+  -- each entry of v1 and of v2 is at most a column's for each place
+  pub choices-within : (bound : ℕ) → Within bound s → Within (length l * bound) (choices s l)
+  choices-within bound small =
+      rw (choices-sums s l)
+      (record { first = sum-entries (s .first) bound (key .first) (small .first); second = sum-entries (s .second) bound (key .second) (small .second) })

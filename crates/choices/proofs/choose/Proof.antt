@@ -1,0 +1,194 @@
+use mathlib.Core.Path.{_≡_, refl, sym, _∙_, ap}
+use mathlib.Core.List.{List}
+use Prim.Native.Nat.{ℕ, _+_, _-_, _<_, _≤_}
+use native.Mathlib.Omega.{arith}
+use borrow.Author.Tests.{ltb-true}
+use lib.Dec.{lit≤}
+use lib.IntN.{ℤ}
+use lib.ListN.{length, getD, take, drop}
+use Rattle.laws.proofs.Entries.{every-at}
+use Rattle.sets.specs.Numbers.{dimension}
+use Rattle.polynomials.specs.Product.{shift}
+use Rattle.polynomials.proofs.Shift.{shift-window}
+use Rattle.vectors.specs.Places.{isPlace}
+use Rattle.vectors.specs.Vectors.{squares, mirrored}
+use Rattle.vectors.proofs.Ranges.{within-wider}
+use Rattle.choices.specs.Choices.{Pair, pair}
+use Rattle.choices.proofs.Pairs.{Sized}
+use Rattle.choices.proofs.Bound.{sized-column, squares-column}
+use Rattle.choices.proofs.Walk.{Walked, walk-start, walk-more, walk-end, walk-room}
+use Rattle.choices.proofs.choose.Statement.{statement}
+use Rattle.choices.proofs.choose.Tie as tie
+
+-- the part of a doubled vector that starts 512 - i from its start
+abbrev part : ℕ → List ℤ → List ℤ
+part i double = take (dimension - i + dimension - (dimension - i)) (drop (dimension - i) double)
+
+-- it is the column x^i s
+part-is : (i : ℕ) (s double : List ℤ) → i < dimension → length s ≡ dimension → double ≡ mirrored s → part i double ≡ shift i s
+part-is i s double h e m =
+    let whole : dimension - i + dimension - (dimension - i) ≡ dimension = omega arith in
+    rw (whole, m) (sym (shift-window i s e))
+
+abbrev Inv-loop : tie.InvT-loop
+Inv-loop s1 s2 list v1₀ v2₀ double1 double2 k₀ v1 v2 k = (k ≤ length list) × Walked (pair s1 s2) list k (pair v1 v2)
+
+abbrev μ-loop : tie.MeasureT-loop
+μ-loop s1 s2 list v1₀ v2₀ double1 double2 k₀ v1 v2 k = length list - k
+
+module _ (c : tie.Start Inv-loop μ-loop) where
+  abbrev key : Pair
+  key = pair (c .args .s1 .now) (c .args .s2 .now)
+
+  sized : Sized key
+  sized = record { first = c .pre .0 .0; second = c .pre .0 .1 }
+
+-- at a place that is left
+module _ (c : tie.In-loop Inv-loop μ-loop) where
+  abbrev start : tie.Start Inv-loop μ-loop
+  start = c .before .before .before .before .before .before .before .before .before
+
+  abbrev place : ℕ
+  place = getD (start .args .list .now) (c .before .loop .k) 0
+
+  abbrev vector : Pair
+  vector = pair (c .before .loop .v1) (c .before .loop .v2)
+
+  place-small : place < dimension
+  place-small = ltb-true place dimension (every-at isPlace (start .args .list .now) (c .before .loop .k) 0 (start .pre .1 .0 .1) (c .loop-test .taken))
+
+  first-part : part place (c .before .before .before .before .before .before .mirror .last .1 .0) ≡ shift place (key start .first)
+  first-part = part-is place (key start .first) _ place-small (start .pre .0 .0) (c .before .before .before .before .before .before .mirror .ensures)
+
+  second-part : part place (c .before .before .before .mirror2 .last .1 .0) ≡ shift place (key start .second)
+  second-part = part-is place (key start .second) _ place-small (start .pre .0 .1) (c .before .before .before .mirror2 .ensures)
+
+slice-aggregate-mirror : tie.Need-slice-aggregate-mirror Inv-loop μ-loop
+slice-aggregate-mirror c = refl
+
+mirror-requires : tie.Need-mirror-requires Inv-loop μ-loop
+mirror-requires c κs = (c .before .before .pre .0 .0, refl, within-wider 5 32767 (c .before .before .args .s1 .now) (lit≤ tt) (c .before .before .pre .0 .2))
+
+slice-aggregate-mirror-2 : tie.Need-slice-aggregate-mirror-2 Inv-loop μ-loop
+slice-aggregate-mirror-2 c = refl
+
+mirror-requires-2 : tie.Need-mirror-requires-2 Inv-loop μ-loop
+mirror-requires-2 c κs =
+    let s = c .before .before .before .before .before in
+    (s .pre .0 .1, refl, within-wider 5 32767 (s .args .s2 .now) (lit≤ tt) (s .pre .0 .3))
+
+loop-holds : tie.Need-loop-holds Inv-loop μ-loop
+loop-holds c =
+    let s = c .before .before .before .before .before .before .before in
+    (omega arith, rw (s .pre .1 .1 .0, s .pre .1 .1 .1) (walk-start (key s) (s .args .list .now)))
+
+mul-start : tie.Need-mul-start Inv-loop μ-loop
+mul-start c = omega arith
+
+shared-slice-read-start : tie.Need-shared-slice-read-start Inv-loop μ-loop
+shared-slice-read-start c = omega arith
+
+cast-start : tie.Need-cast-start Inv-loop μ-loop
+cast-start c = omega (arith, place-small (c .before))
+
+sub-start : tie.Need-sub-start Inv-loop μ-loop
+sub-start c = omega (arith, place-small (c .before))
+
+add-end : tie.Need-add-end Inv-loop μ-loop
+add-end c = omega (arith, place-small (c .before))
+
+mul-step : tie.Need-mul-step Inv-loop μ-loop
+mul-step c = omega (arith, place-small (c .before .before .before))
+
+sub-step : tie.Need-sub-step Inv-loop μ-loop
+sub-step c = omega arith
+
+part-step-start : tie.Need-part-step-start Inv-loop μ-loop
+part-step-start c = omega (arith, place-small (c .before .before .before .before))
+
+part-step-end : tie.Need-part-step-end Inv-loop μ-loop
+part-step-end c = omega (arith, place-small (c .before .before .before .before))
+
+mul-step-2 : tie.Need-mul-step-2 Inv-loop μ-loop
+mul-step-2 c = omega (arith, place-small (c .before .before .before .before .before))
+
+sub-step-2 : tie.Need-sub-step-2 Inv-loop μ-loop
+sub-step-2 c = omega arith
+
+part-step-start-2 : tie.Need-part-step-start-2 Inv-loop μ-loop
+part-step-start-2 c = omega (arith, place-small (c .before .before .before .before .before .before))
+
+part-step-end-2 : tie.Need-part-step-end-2 Inv-loop μ-loop
+part-step-end-2 c = omega (arith, place-small (c .before .before .before .before .before .before))
+
+step-requires : tie.Need-step-requires Inv-loop μ-loop
+step-requires c κs =
+    let l = c .before .before .before .before .before .before .before in
+    let s = start l in
+    let v = l .before .loop .inv .1 .short .sized in
+    let w = sized-column (place l) (key s) (sized s) in (
+      (v .first, v .second, ap length (first-part l) ∙ w .first, ap length (second-part l) ∙ w .second),
+      omega (
+        arith,
+        walk-room (key s) (sized s) (s .pre .0 .2) (s .pre .0 .3) (l .before .loop .k) (vector l) (omega arith) (l .before .loop .inv .1 .short),
+        squares-column (place l) (key s),
+        ap squares (first-part l),
+        ap squares (second-part l),
+      ),
+    )
+
+add-k : tie.Need-add-k Inv-loop μ-loop
+add-k c = omega arith
+
+loop-less : tie.Need-loop-less Inv-loop μ-loop
+loop-less c = omega arith
+
+loop-again : tie.Need-loop-again Inv-loop μ-loop
+loop-again c =
+    let l = c .before .before .before .before .before .before .before .before .before .before in
+    let s = start l in (
+      omega arith,
+      rw (c .before .before .step .ensures, first-part l, second-part l)
+          (walk-more (key s) (s .args .list .now) (l .before .loop .inv .1) (sized s) (l .loop-test .taken)),
+    )
+
+same-length : tie.Need-same-length Inv-loop μ-loop
+same-length c = c .before .loop .inv .1 .short .sized .first ∙ sym (ap length (c .before .before .before .before .before .before .before .before .before .pre .1 .1 .0))
+
+same-length-2 : tie.Need-same-length-2 Inv-loop μ-loop
+same-length-2 c = c .before .loop .inv .1 .short .sized .second ∙ sym (ap length (c .before .before .before .before .before .before .before .before .before .pre .1 .1 .1))
+
+returns : tie.Need-returns Inv-loop μ-loop
+returns c = walk-end (key (c .before .before .before .before .before .before .before .before .before)) _ (c .before .loop .inv .1) (omega arith)
+
+pub choose-spec : {M : Type 1} → statement M
+choose-spec =
+    tie.close
+    (tie.spec
+    Inv-loop
+    μ-loop
+    slice-aggregate-mirror
+    mirror-requires
+    slice-aggregate-mirror-2
+    mirror-requires-2
+    loop-holds
+    mul-start
+    shared-slice-read-start
+    cast-start
+    sub-start
+    add-end
+    mul-step
+    sub-step
+    part-step-start
+    part-step-end
+    mul-step-2
+    sub-step-2
+    part-step-start-2
+    part-step-end-2
+    step-requires
+    add-k
+    loop-less
+    loop-again
+    same-length
+    same-length-2
+    returns)

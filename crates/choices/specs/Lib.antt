@@ -1,0 +1,3 @@
+-- 01, "Response": the sign choices.
+pub mod Choices
+pub mod Signs

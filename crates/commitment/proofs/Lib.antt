@@ -1,0 +1,2 @@
+-- What the other crates cite of the commitment.
+pub mod Sums

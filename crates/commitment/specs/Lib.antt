@@ -1,0 +1,2 @@
+-- 01, "Commitment".
+pub mod Commitment

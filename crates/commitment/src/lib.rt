@@ -1,0 +1,87 @@
+// The commitment (01, "Commitment"), and the sums that the response and the rebuild round too.
+ghost use mathlib.Core.Path.{_≡_};
+ghost use mathlib.Core.List.{map};
+ghost use lib.ListN.{length};
+ghost use Rattle.laws.specs.Lists.{every, zipWith};
+ghost use Rattle.sets.specs.Numbers.{dimension, twiceModulus};
+ghost use Rattle.answers.specs.Outcomes.{filled};
+ghost use Rattle.rounding.specs.Rounding.{upper, summed};
+ghost use Rattle.commitment.specs.Commitment.{isReduced, areMasks, sums, committed, commitment as commitmentOf, commitmentFor};
+use answers::Outcome;
+use sets::Asked;
+use sets::Set;
+
+// The commitment: refusals 1, 2, 3, 4.
+pub fn commitment(set: u32, a: &[u16], y1: &[i16], y2: &[i16], out: &mut [u16]) -> Outcome
+    ensures { λ r. ⌜ filled r (now (out .exit)) ≡ commitmentOf set (now (a .entry)) (now (y1 .entry)) (now (y2 .entry)) (now (out .entry)) ⌝ }
+{
+    match Set::asked(set) {
+        Asked::Unknown => Outcome::UnknownSet,
+        Asked::Known(s) => commitment_for(s, a, y1, y2, out),
+    }
+}
+
+fn commitment_for(s: Set, a: &[u16], y1: &[i16], y2: &[i16], out: &mut [u16]) -> Outcome
+    ensures { λ r. ⌜ filled r (now (out .exit)) ≡ commitmentFor s (now (a .entry)) (now (y1 .entry)) (now (y2 .entry)) (now (out .entry)) ⌝ }
+{
+    if !vectors::four_sized(a.len(), y1.len(), y2.len(), out.len()) {
+        return Outcome::WrongLength;
+    }
+    if !vectors::all_below(a, Set::MODULUS as u16) {
+        return Outcome::CoefficientOutside;
+    }
+    if !are_masks(y1, y2) {
+        return Outcome::MaskOutside;
+    }
+    commit(s, a, y1, y2, out);
+    Outcome::Done
+}
+
+// Whether both masks have their coefficients in -4,096 .. 4,096.
+pub fn are_masks(y1: &[i16], y2: &[i16]) -> bool
+    ensures { λ r. ⌜ r ≡ areMasks (now (y1 .entry)) (now (y2 .entry)) ⌝ }
+{
+    if !vectors::all_within(y1, Set::MASK_LIMIT) {
+        return false;
+    }
+    vectors::all_within(y2, Set::MASK_LIMIT)
+}
+
+fn commit(s: Set, a: &[u16], y1: &[i16], y2: &[i16], out: &mut [u16])
+    requires { ⌜ (length (now a) ≡ dimension) × (length (now y1) ≡ dimension) × (length (now y2) ≡ dimension) × (length (now out) ≡ dimension) ⌝ }
+    ensures { λ _. ⌜ now (out .exit) ≡ committed s (now (a .entry)) (now (y1 .entry)) (now (y2 .entry)) ⌝ }
+{
+    let mut u = [0u32; Set::DIMENSION];
+    make_sums(a, y1, y2, &mut u);
+    round(s, &u, out);
+}
+
+// u = 12288 t + y2 modulo 24578, where t = a times y1 modulo q.
+pub fn make_sums(a: &[u16], y1: &[i16], y2: &[i16], u: &mut [u32])
+    requires { ⌜ (length (now a) ≡ dimension) × (length (now y1) ≡ dimension) × (length (now y2) ≡ dimension) × (length (now u) ≡ dimension) ⌝ }
+    ensures { λ _. ⌜ now (u .exit) ≡ sums (now (a .entry)) (now (y1 .entry)) (now (y2 .entry)) ⌝ }
+{
+    let mut t = [0u16; Set::DIMENSION];
+    ring::key_product(a, y1, &mut t);
+    add_sums(&t, y2, u);
+}
+
+// 12288 t + y modulo 24578, place by place.
+pub fn add_sums(t: &[u16], y: &[i16], u: &mut [u32])
+    requires { ⌜ (length (now t) ≡ dimension) × (length (now y) ≡ dimension) × (length (now u) ≡ dimension) ⌝ }
+    ensures { λ _. ⌜ now (u .exit) ≡ zipWith summed (now (t .entry)) (now (y .entry)) ⌝ }
+{
+    for i in 0..Set::DIMENSION {
+        u[i] = rounding::sum(t[i], y[i]);
+    }
+}
+
+// The upper digits of u. An entry below p fits.
+fn round(s: Set, u: &[u32], out: &mut [u16])
+    requires { ⌜ (length (now u) ≡ dimension) × (length (now out) ≡ dimension) × isReduced (now u) ⌝ }
+    ensures { λ _. ⌜ now (out .exit) ≡ map (upper s) (now (u .entry)) ⌝ }
+{
+    for i in 0..Set::DIMENSION {
+        out[i] = rounding::upper_digits(s, u[i]) as u16;
+    }
+}

@@ -1,0 +1,2 @@
+-- 01, "The draw".
+pub mod Draw

@@ -1,0 +1,3 @@
+-- What the other crates cite of keys.
+pub mod Second
+pub mod Ranges

@@ -1,0 +1,2 @@
+-- 01, "Key".
+pub mod Key

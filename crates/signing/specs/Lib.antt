@@ -1,0 +1,2 @@
+-- 01, "Response".
+pub mod Response

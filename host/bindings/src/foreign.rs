@@ -1,0 +1,145 @@
+//! The declarations of `include/bursztok.h`.
+//!
+//! Slices are declared as a pointer and a length: a `&[T]` in an `extern "C"` declaration is not
+//! passed as C passes the two.
+
+#[repr(C)]
+pub struct Answer {
+    pub number: u32,
+    pub place: u32,
+}
+
+#[repr(C)]
+pub struct Response {
+    pub number: u32,
+    pub place: u32,
+    pub words: u64,
+}
+
+#[repr(C)]
+pub struct Reading {
+    pub number: u32,
+    pub place: u32,
+    pub set: u32,
+}
+
+#[repr(C)]
+pub struct Part {
+    pub start: u64,
+    pub length: u64,
+}
+
+extern "C" {
+    pub fn bursztok_key_test(
+        set: u32,
+        f: *const i8,
+        f_len: usize,
+        g: *const i8,
+        g_len: usize,
+        a: *const u16,
+        a_len: usize,
+    ) -> Answer;
+
+    pub fn bursztok_commitment(
+        set: u32,
+        a: *const u16,
+        a_len: usize,
+        y1: *const i16,
+        y1_len: usize,
+        y2: *const i16,
+        y2_len: usize,
+        out: *mut u16,
+        out_len: usize,
+    ) -> Answer;
+
+    pub fn bursztok_respond(
+        set: u32,
+        f: *const i8,
+        f_len: usize,
+        g: *const i8,
+        g_len: usize,
+        a: *const u16,
+        a_len: usize,
+        y1: *const i16,
+        y1_len: usize,
+        y2: *const i16,
+        y2_len: usize,
+        list: *const u16,
+        list_len: usize,
+        sign: bool,
+        thresholds: *const u64,
+        thresholds_len: usize,
+        words: *const u64,
+        words_len: usize,
+        z1: *mut i16,
+        z1_len: usize,
+        z2: *mut i8,
+        z2_len: usize,
+    ) -> Response;
+
+    pub fn bursztok_rebuild(
+        set: u32,
+        a: *const u16,
+        a_len: usize,
+        z1: *const i16,
+        z1_len: usize,
+        z2: *const i8,
+        z2_len: usize,
+        list: *const u16,
+        list_len: usize,
+        out: *mut u16,
+        out_len: usize,
+    ) -> Answer;
+
+    pub fn bursztok_compare(
+        set: u32,
+        claimed: *const u16,
+        claimed_len: usize,
+        hashed: *const u16,
+        hashed_len: usize,
+    ) -> Answer;
+
+    pub fn bursztok_write(
+        set: u32,
+        z1: *const i16,
+        z1_len: usize,
+        z2: *const i8,
+        z2_len: usize,
+        list: *const u16,
+        list_len: usize,
+        out: *mut u8,
+        out_len: usize,
+    ) -> Answer;
+
+    pub fn bursztok_read(
+        record: *const u8,
+        record_len: usize,
+        z1: *mut i16,
+        z1_len: usize,
+        z2: *mut i8,
+        z2_len: usize,
+        list: *mut u16,
+        list_len: usize,
+    ) -> Reading;
+
+    pub fn bursztok_z1_section(
+        record: *const u8,
+        record_len: usize,
+        number: *mut u32,
+        place: *mut u32,
+    ) -> Part;
+
+    pub fn bursztok_z2_section(
+        record: *const u8,
+        record_len: usize,
+        number: *mut u32,
+        place: *mut u32,
+    ) -> Part;
+
+    pub fn bursztok_list_section(
+        record: *const u8,
+        record_len: usize,
+        number: *mut u32,
+        place: *mut u32,
+    ) -> Part;
+}

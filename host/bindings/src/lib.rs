@@ -1,0 +1,271 @@
+//! Safe bindings to `libbursztok.a`, the proved BLISS-B signing core.
+//!
+//! The ten calls of paper 01, with slices for the pointers and lengths of `bursztok.h`. Every call
+//! answers on all input, slices of any length included; a refusal leaves every output slice with
+//! the contents it came with.
+
+mod foreign;
+mod refusal;
+
+pub use refusal::Refusal;
+
+use foreign::{Answer, Part};
+
+/// The length of every vector.
+pub const VECTOR: usize = 512;
+/// The length of the row of thresholds.
+pub const THRESHOLDS: usize = 31;
+/// The length of the reader's list buffer.
+pub const LIST: usize = 39;
+/// The length of the longest record.
+pub const RECORD: usize = 1638;
+
+/// What a response takes beside the two vectors that it writes.
+#[derive(Clone, Copy, Debug)]
+pub struct Challenge<'a> {
+    pub f: &'a [i8],
+    pub g: &'a [i8],
+    pub a: &'a [u16],
+    pub y1: &'a [i16],
+    pub y2: &'a [i16],
+    pub list: &'a [u16],
+    /// The sign bit.
+    pub sign: bool,
+    pub thresholds: &'a [u64],
+    pub words: &'a [u64],
+}
+
+/// The answer of a response: the count of words taken stands beside every outcome.
+#[derive(Clone, Copy, Debug, PartialEq, Eq)]
+#[must_use]
+pub struct Response {
+    pub outcome: Result<(), Refusal>,
+    pub words: u64,
+}
+
+/// The answer of the reader: the set that the record states, 0 when it refuses.
+#[derive(Clone, Copy, Debug, PartialEq, Eq)]
+#[must_use]
+pub struct Reading {
+    pub outcome: Result<(), Refusal>,
+    pub set: u32,
+}
+
+/// The answer of a section call: a part of the lent record, empty and at its start when refused.
+#[derive(Clone, Copy, Debug, PartialEq, Eq)]
+#[must_use]
+pub struct Section<'a> {
+    pub outcome: Result<(), Refusal>,
+    pub part: &'a [u8],
+}
+
+/// The key test.
+pub fn key_test(set: u32, f: &[i8], g: &[i8], a: &[u16]) -> Result<(), Refusal> {
+    // SAFETY: each pointer is good for the length beside it.
+    let answer = unsafe {
+        foreign::bursztok_key_test(
+            set,
+            f.as_ptr(),
+            f.len(),
+            g.as_ptr(),
+            g.len(),
+            a.as_ptr(),
+            a.len(),
+        )
+    };
+    outcome(answer)
+}
+
+/// The commitment to the masks y1 and y2.
+pub fn commitment(
+    set: u32,
+    a: &[u16],
+    y1: &[i16],
+    y2: &[i16],
+    out: &mut [u16],
+) -> Result<(), Refusal> {
+    // SAFETY: each pointer is good for the length beside it; `out` is borrowed alone.
+    let answer = unsafe {
+        foreign::bursztok_commitment(
+            set,
+            a.as_ptr(),
+            a.len(),
+            y1.as_ptr(),
+            y1.len(),
+            y2.as_ptr(),
+            y2.len(),
+            out.as_mut_ptr(),
+            out.len(),
+        )
+    };
+    outcome(answer)
+}
+
+/// The response to a challenge: writes z1 and z2 dagger.
+pub fn respond(set: u32, challenge: Challenge, z1: &mut [i16], z2_dagger: &mut [i8]) -> Response {
+    let Challenge {
+        f,
+        g,
+        a,
+        y1,
+        y2,
+        list,
+        sign,
+        thresholds,
+        words,
+    } = challenge;
+    // SAFETY: each pointer is good for the length beside it; the outputs are borrowed alone.
+    let answer = unsafe {
+        foreign::bursztok_respond(
+            set,
+            f.as_ptr(),
+            f.len(),
+            g.as_ptr(),
+            g.len(),
+            a.as_ptr(),
+            a.len(),
+            y1.as_ptr(),
+            y1.len(),
+            y2.as_ptr(),
+            y2.len(),
+            list.as_ptr(),
+            list.len(),
+            sign,
+            thresholds.as_ptr(),
+            thresholds.len(),
+            words.as_ptr(),
+            words.len(),
+            z1.as_mut_ptr(),
+            z1.len(),
+            z2_dagger.as_mut_ptr(),
+            z2_dagger.len(),
+        )
+    };
+    Response {
+        outcome: Refusal::outcome(answer.number, answer.place),
+        words: answer.words,
+    }
+}
+
+/// The rebuild of the vector that the signer committed to.
+pub fn rebuild(
+    set: u32,
+    a: &[u16],
+    z1: &[i16],
+    z2_dagger: &[i8],
+    list: &[u16],
+    out: &mut [u16],
+) -> Result<(), Refusal> {
+    // SAFETY: each pointer is good for the length beside it; `out` is borrowed alone.
+    let answer = unsafe {
+        foreign::bursztok_rebuild(
+            set,
+            a.as_ptr(),
+            a.len(),
+            z1.as_ptr(),
+            z1.len(),
+            z2_dagger.as_ptr(),
+            z2_dagger.len(),
+            list.as_ptr(),
+            list.len(),
+            out.as_mut_ptr(),
+            out.len(),
+        )
+    };
+    outcome(answer)
+}
+
+/// The comparison of the claimed list with the list that the caller hashed.
+pub fn compare(set: u32, claimed: &[u16], hashed: &[u16]) -> Result<(), Refusal> {
+    // SAFETY: each pointer is good for the length beside it.
+    let answer = unsafe {
+        foreign::bursztok_compare(
+            set,
+            claimed.as_ptr(),
+            claimed.len(),
+            hashed.as_ptr(),
+            hashed.len(),
+        )
+    };
+    outcome(answer)
+}
+
+/// The record writer. A longer output keeps its tail.
+pub fn write(
+    set: u32,
+    z1: &[i16],
+    z2_dagger: &[i8],
+    list: &[u16],
+    out: &mut [u8],
+) -> Result<(), Refusal> {
+    // SAFETY: each pointer is good for the length beside it; `out` is borrowed alone.
+    let answer = unsafe {
+        foreign::bursztok_write(
+            set,
+            z1.as_ptr(),
+            z1.len(),
+            z2_dagger.as_ptr(),
+            z2_dagger.len(),
+            list.as_ptr(),
+            list.len(),
+            out.as_mut_ptr(),
+            out.len(),
+        )
+    };
+    outcome(answer)
+}
+
+/// The record reader. List entries after kappa keep their old contents.
+pub fn read(record: &[u8], z1: &mut [i16], z2_dagger: &mut [i8], list: &mut [u16]) -> Reading {
+    // SAFETY: each pointer is good for the length beside it; the outputs are borrowed alone.
+    let answer = unsafe {
+        foreign::bursztok_read(
+            record.as_ptr(),
+            record.len(),
+            z1.as_mut_ptr(),
+            z1.len(),
+            z2_dagger.as_mut_ptr(),
+            z2_dagger.len(),
+            list.as_mut_ptr(),
+            list.len(),
+        )
+    };
+    Reading {
+        outcome: Refusal::outcome(answer.number, answer.place),
+        set: answer.set,
+    }
+}
+
+/// The z1 bytes of a record: two an entry, low byte first.
+pub fn z1_section(record: &[u8]) -> Section<'_> {
+    section(record, foreign::bursztok_z1_section)
+}
+
+/// The z2 dagger bytes of a record: one an entry.
+pub fn z2_section(record: &[u8]) -> Section<'_> {
+    section(record, foreign::bursztok_z2_section)
+}
+
+/// The list bytes of a record: two a place, low byte first.
+pub fn list_section(record: &[u8]) -> Section<'_> {
+    section(record, foreign::bursztok_list_section)
+}
+
+type SectionCall = unsafe extern "C" fn(*const u8, usize, *mut u32, *mut u32) -> Part;
+
+fn section(record: &[u8], call: SectionCall) -> Section<'_> {
+    // A number that the library leaves as it is would be none of the paper's.
+    let (mut number, mut place) = (u32::MAX, u32::MAX);
+    // SAFETY: the pointer is good for the length beside it; the two numbers are borrowed alone.
+    let Part { start, length } =
+        unsafe { call(record.as_ptr(), record.len(), &mut number, &mut place) };
+    let end = start.checked_add(length).expect("a part has an end");
+    Section {
+        outcome: Refusal::outcome(number, place),
+        part: &record[start as usize..end as usize],
+    }
+}
+
+fn outcome(answer: Answer) -> Result<(), Refusal> {
+    Refusal::outcome(answer.number, answer.place)
+}

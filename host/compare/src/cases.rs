@@ -1,0 +1,273 @@
+//! The cases of a run. Case numbers below `Plan::planned()` go through every call, set and pair of
+//! faults, every header bit, every length of a record, every count of words and every step of the
+//! draw; those above are drawn at random. A case is made from the run's seed and its number alone.
+
+use crate::buffers::{difference, Buffers, Left};
+use crate::faults::{faults_of, right_input};
+use crate::{library, walks};
+use second::record::{total, HEADER};
+use second::testing::calls::{self, Call, Input};
+use second::testing::keys::{self, Key};
+use second::testing::noise::Noise;
+use second::Set;
+use std::collections::HashMap;
+
+/// The set numbers that calls take: 0 stands for set 1.
+const SET_NUMBERS: [u32; 5] = [0, 1, 2, 3, 4];
+/// So many cases share a key.
+const CASES_PER_KEY: u64 = 16;
+
+#[derive(Clone, Copy, Debug)]
+enum Planned {
+    /// A call with two faults, or one where both are the same.
+    Pair {
+        call: Call,
+        set: u32,
+        faults: (usize, usize),
+    },
+    /// Each bit of one header byte turned.
+    HeaderByte { set: u32, byte: usize },
+    /// Every length of the record up to two past its total.
+    RecordLengths { set: u32 },
+    /// A walk with every count of words, from none to all that it takes.
+    WordCounts { set: u32 },
+    /// Walks through the draw's four steps that fail at every place in turn.
+    Walks { set: u32 },
+}
+
+/// What a case found: the answers, for the tally, and the failures.
+#[derive(Default)]
+pub struct Found {
+    pub answers: Vec<(Call, u32)>,
+    pub failures: Vec<String>,
+    /// The case in words.
+    pub story: String,
+}
+
+pub struct Plan {
+    seed: u64,
+    planned: Vec<Planned>,
+    keys: HashMap<(u32, u64), Key>,
+}
+
+impl Plan {
+    pub fn new(seed: u64) -> Plan {
+        let mut planned = Vec::new();
+        for set in SET_NUMBERS {
+            for call in Call::ALL {
+                let count = faults_of(call).len();
+                for first in 0..count {
+                    for second in first..count {
+                        let faults = (first, second);
+                        planned.push(Planned::Pair { call, set, faults });
+                    }
+                }
+            }
+            planned.extend((0..HEADER).map(|byte| Planned::HeaderByte { set, byte }));
+            planned.push(Planned::RecordLengths { set });
+            planned.extend((0..3).map(|_| Planned::WordCounts { set }));
+            planned.push(Planned::Walks { set });
+        }
+        Plan {
+            seed,
+            planned,
+            keys: HashMap::new(),
+        }
+    }
+
+    /// The number of cases that are not drawn at random.
+    pub fn planned(&self) -> u64 {
+        self.planned.len() as u64
+    }
+
+    /// Runs the case of this number.
+    pub fn run(&mut self, number: u64) -> Found {
+        let mut noise = Noise::part(self.seed, number);
+        match self.planned.get(number as usize) {
+            Some(&planned) => self.run_planned(number, planned, &mut noise),
+            None => self.run_random(number, &mut noise),
+        }
+    }
+
+    fn run_planned(&mut self, number: u64, planned: Planned, noise: &mut Noise) -> Found {
+        let mut found = Found::default();
+        match planned {
+            Planned::Pair { call, set, faults } => {
+                let mut input = self.input(number, set, noise);
+                let all = faults_of(call);
+                let (first, second) = (all[faults.0], all[faults.1]);
+                (first.apply)(&mut input, noise);
+                found.story = format!("{}, set {set}: {}", call.name(), first.name);
+                if faults.0 != faults.1 {
+                    (second.apply)(&mut input, noise);
+                    found.story += &format!(" and {}", second.name);
+                }
+                found.compare(call, &input);
+            }
+            Planned::HeaderByte { set, byte } => {
+                found.story = format!("header byte {byte}, set {set}");
+                let right = self.input(number, set, noise);
+                for bit in 0..8 {
+                    let mut input = right.clone();
+                    input.record[byte] ^= 1 << bit;
+                    found.compare_record_calls(&input);
+                }
+            }
+            Planned::RecordLengths { set } => {
+                found.story = format!("lengths of a record, set {set}");
+                let right = self.input(number, set, noise);
+                for length in 0..right.record.len() + 3 {
+                    let mut input = right.clone();
+                    input.record.resize(length, 0);
+                    found.compare_record_calls(&input);
+                }
+            }
+            Planned::WordCounts { set } => {
+                found.story = format!("counts of words, set {set}");
+                let mut input = self.input(number, set, noise);
+                // Thresholds that fail now and then, so that walks go through all four steps.
+                input.thresholds.fill(noise.word() | 7 << 61);
+                input.words = noise.words(300);
+                let taken = Left::by(calls::run, Call::Respond, &input, 0)
+                    .answered
+                    .words;
+                let words = input.words.clone();
+                for count in 0..=taken as usize {
+                    input.words = words[..count].to_vec();
+                    found.compare(Call::Respond, &input);
+                }
+            }
+            Planned::Walks { set } => {
+                found.story = format!("walks of the draw, set {set}");
+                let mut input = self.input(number, set, noise);
+                input.thresholds.fill(walks::THRESHOLD);
+                for words in walks::walks(&input, noise) {
+                    // All of the walk, and all but its last word.
+                    input.words.clone_from(&words);
+                    found.compare(Call::Respond, &input);
+                    input.words.pop();
+                    found.compare(Call::Respond, &input);
+                }
+            }
+        }
+        found
+    }
+
+    /// A call at random with up to three faults; a signature given out is followed to its end.
+    fn run_random(&mut self, number: u64, noise: &mut Noise) -> Found {
+        let mut found = Found::default();
+        let call = match noise.below(3) {
+            0 => Call::Respond,
+            _ => noise.one_of(&Call::ALL),
+        };
+        let set = noise.one_of(&SET_NUMBERS);
+        let mut input = self.input(number, set, noise);
+        found.story = format!("{}, set {set}", call.name());
+        let faults = faults_of(call);
+        for _ in 0..noise.below(4) {
+            let fault = faults[noise.below(faults.len())];
+            (fault.apply)(&mut input, noise);
+            found.story += &format!(", {}", fault.name);
+        }
+        let left = found.compare(call, &input);
+        if call == Call::Respond && left.number() == 0 {
+            found.follow(&input, &left);
+        }
+        if call == Call::Read && left.number() == 0 {
+            found.write_again(&input, &left);
+        }
+        found
+    }
+
+    fn input(&mut self, number: u64, set: u32, noise: &mut Noise) -> Input {
+        let slot = number / CASES_PER_KEY;
+        if self.keys.len() > 64 {
+            self.keys.clear();
+        }
+        let seed = self.seed;
+        let key = self.keys.entry((set, slot)).or_insert_with(|| {
+            let parameters = Set::asked(set).expect("a set number");
+            let mut noise = Noise::part(seed ^ u64::from(set), u64::MAX - slot);
+            keys::any(parameters, &mut noise)
+        });
+        right_input(set, key, noise)
+    }
+}
+
+impl Found {
+    /// Runs the call on both sides and compares all that they leave behind.
+    fn compare(&mut self, call: Call, input: &Input) -> Left {
+        // Another fill for each call of a case.
+        let fill = self.answers.len() as u64;
+        let library = Left::by(library::run, call, input, fill);
+        let second = Left::by(calls::run, call, input, fill);
+        let number = library.number();
+        self.answers.push((call, second.number()));
+        if let Some(what) = difference(&library, &second) {
+            self.fail(call, what);
+        } else if number != 0 && library.buffers != Buffers::new(input, fill) {
+            self.fail(call, "a refusal wrote to an output buffer");
+        } else if !call.numbers().contains(&number) {
+            self.fail(call, format!("{number} is no number of the call"));
+        }
+        library
+    }
+
+    fn compare_record_calls(&mut self, input: &Input) {
+        for call in Call::ON_RECORD {
+            self.compare(call, input);
+        }
+    }
+
+    /// Demands 2 and 3 for a signature that was given out: it is written, read back, rebuilt to
+    /// the commitment, and compared.
+    fn follow(&mut self, input: &Input, given_out: &Left) {
+        let mut next = input.clone();
+        next.z1 = given_out.buffers.z1().to_vec();
+        next.z2_dagger = given_out.buffers.z2_dagger().to_vec();
+        next.hashed.clone_from(&next.list);
+        let committed = self.compare(Call::Commitment, &next);
+        let rebuilt = self.compare(Call::Rebuild, &next);
+        if rebuilt.number() != 0 || rebuilt.buffers.rounded() != committed.buffers.rounded() {
+            self.fail(Call::Rebuild, "it is not the commitment");
+        }
+        if self.compare(Call::Compare, &next).number() != 0 {
+            self.fail(Call::Compare, "a list differs from itself");
+        }
+        let set = Set::asked(next.set).expect("it was signed");
+        next.lengths.record = total(set);
+        let written = self.compare(Call::Write, &next);
+        next.record = written.buffers.record().to_vec();
+        let read = self.compare(Call::Read, &next);
+        let same = read.answered.set == set.number()
+            && read.buffers.z1() == next.z1
+            && read.buffers.z2_dagger() == next.z2_dagger
+            && read.buffers.list()[..set.kappa()] == next.list;
+        if written.number() != 0 || read.number() != 0 || !same {
+            let what = "a record does not read back as the signature";
+            self.fail(Call::Read, what);
+        }
+    }
+
+    /// Demand 2: a record that reads is the one that the writer makes of it.
+    fn write_again(&mut self, input: &Input, read: &Left) {
+        let Ok(set) = Set::asked(read.answered.set) else {
+            return self.fail(Call::Read, format!("it answers set {}", read.answered.set));
+        };
+        let mut next = input.clone();
+        next.set = read.answered.set;
+        next.z1 = read.buffers.z1().to_vec();
+        next.z2_dagger = read.buffers.z2_dagger().to_vec();
+        next.list = read.buffers.list()[..set.kappa()].to_vec();
+        next.lengths.record = input.record.len();
+        let written = self.compare(Call::Write, &next);
+        if written.number() != 0 || written.buffers.record() != input.record {
+            let what = "it does not make the record that was read";
+            self.fail(Call::Write, what);
+        }
+    }
+
+    fn fail(&mut self, call: Call, what: impl std::fmt::Display) {
+        self.failures.push(format!("{}: {what}", call.name()));
+    }
+}

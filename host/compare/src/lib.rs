@@ -1,0 +1,9 @@
+//! Every call of the library against the second program: all that both leave behind is compared,
+//! byte for byte.
+
+pub mod buffers;
+pub mod cases;
+pub mod faults;
+pub mod library;
+pub mod tally;
+pub mod walks;

@@ -1,0 +1,57 @@
+//! The library's side of a comparison.
+
+use bursztok::{Challenge, Refusal, Section};
+use second::testing::calls::{Answered, Call, Input, Outputs};
+
+/// Runs a call of the library.
+pub fn run(call: Call, input: &Input, out: Outputs) -> Answered {
+    let Input { set, list, a, .. } = input;
+    let outcome = match call {
+        Call::KeyTest => bursztok::key_test(*set, &input.f, &input.g, a),
+        Call::Commitment => bursztok::commitment(*set, a, &input.y1, &input.y2, out.rounded),
+        Call::Rebuild => bursztok::rebuild(*set, a, &input.z1, &input.z2_dagger, list, out.rounded),
+        Call::Compare => bursztok::compare(*set, list, &input.hashed),
+        Call::Write => bursztok::write(*set, &input.z1, &input.z2_dagger, list, out.record),
+        Call::Respond => {
+            let challenge = Challenge {
+                f: &input.f,
+                g: &input.g,
+                a,
+                y1: &input.y1,
+                y2: &input.y2,
+                list,
+                sign: input.sign,
+                thresholds: &input.thresholds,
+                words: &input.words,
+            };
+            let response = bursztok::respond(*set, challenge, out.z1, out.z2_dagger);
+            return Answered {
+                words: response.words,
+                ..answered(response.outcome)
+            };
+        }
+        Call::Read => {
+            let reading = bursztok::read(&input.record, out.z1, out.z2_dagger, out.list);
+            return Answered {
+                set: reading.set,
+                ..answered(reading.outcome)
+            };
+        }
+        Call::Z1Section => return section(&input.record, bursztok::z1_section),
+        Call::Z2Section => return section(&input.record, bursztok::z2_section),
+        Call::ListSection => return section(&input.record, bursztok::list_section),
+    };
+    answered(outcome)
+}
+
+fn answered(outcome: Result<(), Refusal>) -> Answered {
+    match outcome {
+        Ok(()) => Answered::new((0, 0)),
+        Err(refusal) => Answered::new((refusal.number(), refusal.place())),
+    }
+}
+
+fn section(record: &[u8], call: fn(&[u8]) -> Section) -> Answered {
+    let section = call(record);
+    answered(section.outcome).with_part(record, section.part)
+}

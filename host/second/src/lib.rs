@@ -1,0 +1,29 @@
+//! The independent second program: the ten calls of paper 01, written from the papers.
+//!
+//! Every product is the plain signed-wrap sum over whole numbers. Nothing is shared with the
+//! proved library: no code, no table, no transform. One module a section of the paper.
+//!
+//! No other number than 0 writes to any output buffer: each call works on vectors of its own
+//! and copies them out as its last act.
+
+pub mod answers;
+pub mod commitment;
+pub mod comparison;
+pub mod draw;
+pub mod key;
+pub mod length_rule;
+pub mod parameters;
+pub mod rebuild;
+pub mod record;
+pub mod response;
+pub mod ring;
+pub mod testing;
+
+pub use answers::{Reading, Refusal, Response};
+pub use commitment::commitment;
+pub use comparison::compare;
+pub use key::key_test;
+pub use parameters::Set;
+pub use rebuild::rebuild;
+pub use record::{list_section, read, write, z1_section, z2_section};
+pub use response::respond;

@@ -1,0 +1,206 @@
+//! The ten calls over one kind of input and answer, for programs that run them all.
+
+use crate::answers::number_and_place;
+use crate::parameters::{Set, LIST_BUFFER, N};
+use crate::record::total;
+use crate::{commitment, compare, key_test, read, rebuild, respond, write};
+use crate::{list_section, z1_section, z2_section};
+
+#[derive(Clone, Copy, Debug, PartialEq, Eq, PartialOrd, Ord)]
+pub enum Call {
+    KeyTest = 1,
+    Commitment,
+    Respond,
+    Rebuild,
+    Compare,
+    Write,
+    Read,
+    Z1Section,
+    Z2Section,
+    ListSection,
+}
+
+impl Call {
+    pub const ALL: [Call; 10] = [
+        Call::KeyTest,
+        Call::Commitment,
+        Call::Respond,
+        Call::Rebuild,
+        Call::Compare,
+        Call::Write,
+        Call::Read,
+        Call::Z1Section,
+        Call::Z2Section,
+        Call::ListSection,
+    ];
+
+    /// The calls on a record.
+    pub const ON_RECORD: [Call; 4] = [
+        Call::Read,
+        Call::Z1Section,
+        Call::Z2Section,
+        Call::ListSection,
+    ];
+
+    pub fn name(self) -> &'static str {
+        match self {
+            Call::KeyTest => "key test",
+            Call::Commitment => "commitment",
+            Call::Respond => "response",
+            Call::Rebuild => "rebuild",
+            Call::Compare => "comparison",
+            Call::Write => "writer",
+            Call::Read => "reader",
+            Call::Z1Section => "z1 section",
+            Call::Z2Section => "z2 section",
+            Call::ListSection => "list section",
+        }
+    }
+
+    /// The numbers that the call gives: 0, then its refusals in the paper's order.
+    pub fn numbers(self) -> &'static [u32] {
+        match self {
+            Call::KeyTest => &[0, 1, 2, 3, 7, 6],
+            Call::Commitment => &[0, 1, 2, 3, 4],
+            Call::Respond => &[0, 1, 2, 3, 4, 5, 7, 6, 8, 9, 10, 11],
+            Call::Rebuild => &[0, 1, 2, 3, 5, 10, 11],
+            Call::Compare => &[0, 1, 5, 12],
+            Call::Write => &[0, 1, 2, 5, 10, 11, 14],
+            Call::Read => &[0, 2, 13, 5, 10, 11],
+            Call::Z1Section | Call::Z2Section | Call::ListSection => &[0, 13],
+        }
+    }
+}
+
+/// What the calls take. Each call reads the fields that it needs.
+#[derive(Clone, Debug, Default)]
+pub struct Input {
+    pub set: u32,
+    pub f: Vec<i8>,
+    pub g: Vec<i8>,
+    pub a: Vec<u16>,
+    pub y1: Vec<i16>,
+    pub y2: Vec<i16>,
+    pub list: Vec<u16>,
+    pub hashed: Vec<u16>,
+    pub sign: bool,
+    pub thresholds: Vec<u64>,
+    pub words: Vec<u64>,
+    pub z1: Vec<i16>,
+    pub z2_dagger: Vec<i8>,
+    pub record: Vec<u8>,
+    pub lengths: OutputLengths,
+}
+
+/// The lengths of the output buffers that are lent.
+#[derive(Clone, Copy, Debug, Default, PartialEq, Eq)]
+pub struct OutputLengths {
+    pub rounded: usize,
+    pub z1: usize,
+    pub z2_dagger: usize,
+    pub list: usize,
+    pub record: usize,
+}
+
+impl OutputLengths {
+    /// Every buffer at its stated length.
+    pub fn stated(set: Set) -> OutputLengths {
+        OutputLengths {
+            rounded: N,
+            z1: N,
+            z2_dagger: N,
+            list: LIST_BUFFER,
+            record: total(set),
+        }
+    }
+}
+
+/// The output buffers. Each call writes to those that it has.
+pub struct Outputs<'a> {
+    pub rounded: &'a mut [u16],
+    pub z1: &'a mut [i16],
+    pub z2_dagger: &'a mut [i8],
+    pub list: &'a mut [u16],
+    pub record: &'a mut [u8],
+}
+
+/// What a call answers; a field that the call does not have is 0.
+#[derive(Clone, Copy, Debug, Default, PartialEq, Eq)]
+pub struct Answered {
+    pub number: u32,
+    pub place: u32,
+    /// The response's count of words.
+    pub words: u64,
+    /// The reader's set.
+    pub set: u32,
+    /// Start and length of a section in the lent record.
+    pub part: (usize, usize),
+}
+
+impl Answered {
+    pub fn new((number, place): (u32, u32)) -> Answered {
+        Answered {
+            number,
+            place,
+            ..Answered::default()
+        }
+    }
+
+    /// With the part of the lent record that a section call answers.
+    pub fn with_part(self, record: &[u8], part: &[u8]) -> Answered {
+        let start = part.as_ptr() as usize - record.as_ptr() as usize;
+        Answered {
+            part: (start, part.len()),
+            ..self
+        }
+    }
+}
+
+/// Runs a call of the second program.
+pub fn run(call: Call, input: &Input, out: Outputs) -> Answered {
+    let Input { set, list, a, .. } = input;
+    let outcome = match call {
+        Call::KeyTest => key_test(*set, &input.f, &input.g, a),
+        Call::Commitment => commitment(*set, a, &input.y1, &input.y2, out.rounded),
+        Call::Rebuild => rebuild(*set, a, &input.z1, &input.z2_dagger, list, out.rounded),
+        Call::Compare => compare(*set, list, &input.hashed),
+        Call::Write => write(*set, &input.z1, &input.z2_dagger, list, out.record),
+        Call::Respond => {
+            let response = respond(
+                *set,
+                &input.f,
+                &input.g,
+                a,
+                &input.y1,
+                &input.y2,
+                list,
+                input.sign,
+                &input.thresholds,
+                &input.words,
+                out.z1,
+                out.z2_dagger,
+            );
+            return Answered {
+                words: response.words,
+                ..Answered::new(number_and_place(response.outcome))
+            };
+        }
+        Call::Read => {
+            let reading = read(&input.record, out.z1, out.z2_dagger, out.list);
+            return Answered {
+                set: reading.set,
+                ..Answered::new(number_and_place(reading.outcome))
+            };
+        }
+        Call::Z1Section => return section(&input.record, z1_section),
+        Call::Z2Section => return section(&input.record, z2_section),
+        Call::ListSection => return section(&input.record, list_section),
+    };
+    Answered::new(number_and_place(outcome))
+}
+
+fn section(record: &[u8], call: for<'a> fn(&'a [u8], &mut u32, &mut u32) -> &'a [u8]) -> Answered {
+    let (mut number, mut place) = (u32::MAX, u32::MAX);
+    let part = call(record, &mut number, &mut place);
+    Answered::new((number, place)).with_part(record, part)
+}

@@ -1,0 +1,146 @@
+//! Demand 3: the squared length of v, and the rebuild of what the signer committed to.
+
+use second::key::{key_squared_length, s1, s2};
+use second::parameters::N;
+use second::response::sign_choices;
+use second::ring::{modulo_q, product, squared_length, whole};
+use second::testing::keys::{self, Key};
+use second::testing::noise::Noise;
+use second::testing::sheet::{self, Signature, Try};
+use second::{compare, key_test, rebuild, Set};
+
+/// Keys of every kind that the key test admits.
+fn keys_of(set: Set, noise: &mut Noise) -> Vec<Key> {
+    let mut all = vec![
+        keys::thin(),
+        keys::of_squared_length(set.k(), noise),
+        keys::of_squared_length(40, noise),
+        keys::without_inverse(set, noise),
+    ];
+    all.extend((0..6).map(|_| keys::published(set, noise)));
+    all
+}
+
+fn require_rebuilt(set: Set, key: &Key, signature: &Signature, committed: &[u16]) {
+    let Signature {
+        z1,
+        z2_dagger,
+        list,
+    } = signature;
+    let mut rebuilt = vec![0; N];
+    let outcome = rebuild(set.number(), &key.a, z1, z2_dagger, list, &mut rebuilt);
+    assert_eq!(outcome, Ok(()));
+    assert_eq!(rebuilt, committed);
+}
+
+#[test]
+fn made_keys_pass_the_key_test() {
+    let mut noise = Noise::new(31);
+    for set in Set::ALL {
+        for key in keys_of(set, &mut noise) {
+            assert_eq!(key_test(set.number(), &key.f, &key.g, &key.a), Ok(()));
+        }
+        let key = keys::published(set, &mut noise);
+        let (ones, twos) = keys::published_counts(set);
+        for vector in [&key.f, &key.g] {
+            let count = |size: i8| vector.iter().filter(|entry| entry.abs() == size).count();
+            assert_eq!((count(1), count(2)), (ones, twos));
+        }
+    }
+}
+
+#[test]
+fn published_counts_meet_k_where_g_starts_with_its_largest() {
+    for set in Set::ALL {
+        let (ones, twos) = keys::published_counts(set);
+        let first = if twos > 0 { 2 } else { 1 };
+        let squares = (ones + 4 * twos) as i64;
+        assert_eq!(squares + 4 * squares + 4 * first + 1, set.k());
+    }
+}
+
+#[test]
+fn an_inverse_is_one() {
+    let mut noise = Noise::new(32);
+    let key = keys::published(Set::IV, &mut noise);
+    let f = whole(&key.f);
+    let inverse = keys::inverse(&f).unwrap();
+    let mut one = vec![0; N];
+    one[0] = 1;
+    assert_eq!(modulo_q(&product(&f, &inverse)), one);
+}
+
+#[test]
+fn a_key_without_inverse_may_hold_the_relation() {
+    let mut noise = Noise::new(33);
+    let key = keys::without_inverse(Set::II, &mut noise);
+    assert_eq!(keys::inverse(&whole(&key.f)), None);
+    assert_eq!(key_test(2, &key.f, &key.g, &key.a), Ok(()));
+}
+
+#[test]
+fn the_response_is_never_longer_than_kappa_times_the_key() {
+    let mut noise = Noise::new(34);
+    for set in Set::ALL {
+        for key in keys_of(set, &mut noise) {
+            let list = noise.list(set);
+            let (v1, v2) = sign_choices(&s1(&key.f), &s2(&key.g), &list);
+            let squared = squared_length(&v1) + squared_length(&v2);
+            assert!(squared <= set.kappa() as i64 * key_squared_length(&key.f, &key.g));
+        }
+    }
+}
+
+#[test]
+fn v_is_the_key_times_a_signed_list() {
+    let mut noise = Noise::new(35);
+    let key = keys::published(Set::III, &mut noise);
+    let list = noise.list(Set::III);
+    let (v1, v2) = sign_choices(&s1(&key.f), &s2(&key.g), &list);
+    // a v1 = v2 modulo q, and v2 is odd exactly at the listed places.
+    assert_eq!(modulo_q(&product(&whole(&key.a), &v1)), modulo_q(&v2));
+    for (place, entry) in v2.iter().enumerate() {
+        assert_eq!(entry.rem_euclid(2) == 1, list.contains(&(place as u16)));
+    }
+}
+
+#[test]
+fn what_is_given_out_rebuilds_the_commitment() {
+    let mut noise = Noise::new(36);
+    for set in Set::ALL {
+        for key in keys_of(set, &mut noise) {
+            let signed = sheet::sign(set, &key, b"cargo sheet", &mut noise);
+            require_rebuilt(set, &key, &signed.signature, &signed.committed);
+            let list = &signed.signature.list;
+            assert_eq!(compare(set.number(), list, list), Ok(()));
+        }
+    }
+}
+
+/// Masks far wider than sigma, any list, any thresholds: demand 3 asks for no more than that a
+/// signature is given out.
+#[test]
+fn it_does_so_for_any_masks_lists_thresholds_and_words() {
+    let mut noise = Noise::new(37);
+    let mut given_out = 0;
+    for set in Set::ALL {
+        for key in keys_of(set, &mut noise) {
+            for deviation in [0.0, 20.0, 150.0, 300.0] {
+                let (mut attempt, _) = Try::new(set, &key, b"", &mut noise);
+                attempt.y1 = noise.mask_of_deviation(deviation);
+                attempt.y2 = noise.mask_of_deviation(deviation);
+                attempt.list = noise.list(set);
+                attempt.thresholds = vec![u64::MAX; 31];
+                let (response, signature) = attempt.respond(set, &key);
+                if response.outcome == Ok(()) {
+                    let mut committed = vec![0; N];
+                    let Try { y1, y2, .. } = &attempt;
+                    second::commitment(set.number(), &key.a, y1, y2, &mut committed).unwrap();
+                    require_rebuilt(set, &key, &signature, &committed);
+                    given_out += 1;
+                }
+            }
+        }
+    }
+    assert!(given_out > 60, "only {given_out} of 160 were given out");
+}

@@ -1,0 +1,241 @@
+//! "The record": round trips both ways, the header's fields, the section calls.
+
+use second::parameters::{LIST_BUFFER, N};
+use second::record::{header, total, HEADER};
+use second::testing::boundary::{largest_z2_dagger, signature_of_sum};
+use second::testing::noise::Noise;
+use second::{list_section, read, write, z1_section, z2_section, Reading, Refusal, Set};
+
+/// A proper signature of the set: z1, z2 dagger and list.
+fn signature(set: Set, noise: &mut Noise) -> (Vec<i16>, Vec<i8>, Vec<u16>) {
+    let sum = noise.between(0, set.b2_squared());
+    let (z1, z2_dagger) = signature_of_sum(set, sum, noise);
+    (z1, z2_dagger, noise.list(set))
+}
+
+fn record(set: Set, noise: &mut Noise) -> Vec<u8> {
+    let (z1, z2_dagger, list) = signature(set, noise);
+    let mut record = vec![0; total(set)];
+    write(set.number(), &z1, &z2_dagger, &list, &mut record).unwrap();
+    record
+}
+
+fn verdict(record: &[u8]) -> Result<(), Refusal> {
+    let (mut z1, mut z2_dagger) = (vec![77; N], vec![77; N]);
+    let mut list = vec![777; LIST_BUFFER];
+    let reading = read(record, &mut z1, &mut z2_dagger, &mut list);
+    if reading.outcome.is_err() {
+        assert_eq!(reading.set, 0);
+        assert_eq!((z1, z2_dagger), (vec![77; N], vec![77; N]));
+        assert_eq!(list, vec![777; LIST_BUFFER]);
+    }
+    reading.outcome
+}
+
+#[test]
+fn what_is_written_reads_back() {
+    let mut noise = Noise::new(41);
+    for set in Set::ALL {
+        for _ in 0..20 {
+            let (z1, z2_dagger, list) = signature(set, &mut noise);
+            let mut record = vec![0xee; total(set) + 3];
+            let outcome = write(set.number(), &z1, &z2_dagger, &list, &mut record);
+            assert_eq!(outcome, Ok(()));
+            assert_eq!(
+                record[total(set)..],
+                [0xee; 3],
+                "a longer output keeps its tail"
+            );
+
+            let (mut read_z1, mut read_z2) = (vec![0; N], vec![0; N]);
+            let mut read_list = vec![777; LIST_BUFFER];
+            let reading = read(
+                &record[..total(set)],
+                &mut read_z1,
+                &mut read_z2,
+                &mut read_list,
+            );
+            let expected = Reading {
+                outcome: Ok(()),
+                set: set.number(),
+            };
+            assert_eq!(reading, expected);
+            assert_eq!((read_z1, read_z2), (z1, z2_dagger));
+            assert_eq!(read_list[..set.kappa()], list);
+            assert!(read_list[set.kappa()..].iter().all(|&entry| entry == 777));
+        }
+    }
+}
+
+/// Damaged records that still read are the ones that the writer makes of what was read.
+#[test]
+fn what_reads_is_what_the_writer_makes_of_it() {
+    let mut noise = Noise::new(42);
+    let mut reads = 0;
+    for round in 0..400 {
+        let set = Set::ALL[round % 4];
+        let mut record = record(set, &mut noise);
+        for _ in 0..noise.between(1, 2) {
+            let at = noise.below(record.len());
+            record[at] ^= 1 << noise.below(8);
+        }
+        let (mut z1, mut z2_dagger) = (vec![0; N], vec![0; N]);
+        let mut list = vec![0; LIST_BUFFER];
+        let reading = read(&record, &mut z1, &mut z2_dagger, &mut list);
+        if reading.outcome == Ok(()) {
+            reads += 1;
+            let kappa = Set::asked(reading.set).unwrap().kappa();
+            let mut again = vec![0; record.len()];
+            let outcome = write(reading.set, &z1, &z2_dagger, &list[..kappa], &mut again);
+            assert_eq!(outcome, Ok(()));
+            assert_eq!(again, record);
+        }
+    }
+    assert!(reads > 20, "only {reads} damaged records read");
+}
+
+#[test]
+fn set_zero_is_written_as_set_one() {
+    let mut noise = Noise::new(43);
+    let (z1, z2_dagger, list) = signature(Set::I, &mut noise);
+    let (mut zero, mut one) = (vec![0; 1606], vec![0; 1606]);
+    write(0, &z1, &z2_dagger, &list, &mut zero).unwrap();
+    write(1, &z1, &z2_dagger, &list, &mut one).unwrap();
+    assert_eq!(zero, one);
+    assert_eq!(zero[4], 1);
+    zero[4] = 0;
+    assert_eq!(verdict(&zero), Err(Refusal::header(4)));
+}
+
+#[test]
+fn the_header_byte_by_byte() {
+    let expected = [
+        b'B', b'L', b'B', b'1', 3, 0, 0, 2, 24, 0, 0, 2, 0x18, 0x04, 30, 0, 0x18, 0x06, 0x54, 0x06,
+        0, 0, 0, 0,
+    ];
+    assert_eq!(header(Set::III), expected);
+}
+
+#[test]
+fn a_wrong_byte_is_refused_at_the_first_byte_of_its_field() {
+    let starts = [
+        0, 0, 0, 0, 4, 5, 6, 6, 8, 8, 10, 10, 12, 12, 14, 14, 16, 16, 18, 18, 20, 20, 20, 20,
+    ];
+    let mut noise = Noise::new(44);
+    for set in Set::ALL {
+        let right = record(set, &mut noise);
+        for (at, &start) in starts.iter().enumerate() {
+            for bit in 3..8 {
+                let mut wrong = right.clone();
+                wrong[at] ^= 1 << bit;
+                assert_eq!(verdict(&wrong), Err(Refusal::header(start)), "byte {at}");
+                // The first wrong field counts.
+                wrong[23] ^= 1;
+                assert_eq!(verdict(&wrong), Err(Refusal::header(start)), "byte {at}");
+            }
+        }
+    }
+}
+
+#[test]
+fn the_slice_is_exactly_the_total() {
+    let mut noise = Noise::new(45);
+    for set in Set::ALL {
+        let mut right = record(set, &mut noise);
+        for length in 0..total(set) {
+            let place = if length < HEADER { length } else { 18 };
+            assert_eq!(verdict(&right[..length]), Err(Refusal::header(place)));
+        }
+        right.push(0);
+        assert_eq!(verdict(&right), Err(Refusal::header(18)));
+        right[16] ^= 1;
+        assert_eq!(verdict(&right), Err(Refusal::header(16)));
+    }
+}
+
+#[test]
+fn the_set_decides_count_and_limits() {
+    let mut noise = Noise::new(46);
+    let mut changed = record(Set::I, &mut noise);
+    changed[4] = 3;
+    assert_eq!(verdict(&changed), Err(Refusal::header(14)));
+    // Sets 1 and 2 share every header field; the limits differ.
+    let list: Vec<u16> = (0..23).collect();
+    let (mut z1, mut record) = (vec![0; N], vec![0; 1606]);
+    z1[9] = 1564;
+    write(1, &z1, &[0; N], &list, &mut record).unwrap();
+    assert_eq!(verdict(&record), Ok(()));
+    record[4] = 2;
+    assert_eq!(verdict(&record), Err(Refusal::entry(9)));
+}
+
+#[test]
+fn a_section_is_that_part_of_the_record_itself() {
+    let mut noise = Noise::new(47);
+    for set in Set::ALL {
+        let record = record(set, &mut noise);
+        let (mut number, mut place) = (99, 99);
+        let parts = [
+            (z1_section(&record, &mut number, &mut place), 24, 1024),
+            (z2_section(&record, &mut number, &mut place), 1048, 512),
+            (
+                list_section(&record, &mut number, &mut place),
+                1560,
+                2 * set.kappa(),
+            ),
+        ];
+        assert_eq!((number, place), (0, 0));
+        for (part, start, length) in parts {
+            assert_eq!(part.as_ptr(), record[start..].as_ptr());
+            assert_eq!(part.len(), length);
+        }
+    }
+}
+
+#[test]
+fn a_section_call_tests_the_header_only() {
+    let mut noise = Noise::new(48);
+    let mut record = record(Set::IV, &mut noise);
+    let (mut number, mut place) = (99, 99);
+    record[HEADER..].fill(0xff);
+    assert_eq!(verdict(&record), Err(Refusal::LIST));
+    assert_eq!(z1_section(&record, &mut number, &mut place).len(), 1024);
+    assert_eq!((number, place), (0, 0));
+    record[20] = 1;
+    for section in [z1_section, z2_section, list_section] {
+        (number, place) = (99, 99);
+        let part = section(&record, &mut number, &mut place);
+        assert_eq!((number, place), (13, 20));
+        assert_eq!((part.as_ptr(), part.len()), (record.as_ptr(), 0));
+        let part = section(&record[..5], &mut number, &mut place);
+        assert_eq!((number, place), (13, 5));
+        assert_eq!((part.as_ptr(), part.len()), (record.as_ptr(), 0));
+    }
+}
+
+#[test]
+fn the_sum_at_and_above_b2_squared() {
+    let mut noise = Noise::new(49);
+    for set in Set::ALL {
+        let list = noise.list(set);
+        for (excess, outcome) in [(0, Ok(())), (1, Err(Refusal::SUM))] {
+            let (z1, z2_dagger) = signature_of_sum(set, set.b2_squared() + excess, &mut noise);
+            let mut record = vec![0xee; total(set)];
+            assert_eq!(
+                write(set.number(), &z1, &z2_dagger, &list, &mut record),
+                outcome
+            );
+            assert_eq!(outcome.is_err(), record == vec![0xee; total(set)]);
+        }
+    }
+}
+
+/// In 32 bits the sum over set I's largest entries would wrap to less than B2 squared.
+#[test]
+fn a_sum_past_32_bits_is_refused() {
+    let list: Vec<u16> = (0..23).collect();
+    let mut record = vec![0; 1606];
+    let limit = largest_z2_dagger(Set::I) as i8;
+    let outcome = write(1, &[2100; N], &[limit; N], &list, &mut record);
+    assert_eq!(outcome, Err(Refusal::SUM));
+}

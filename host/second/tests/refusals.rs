@@ -1,0 +1,344 @@
+//! "Numbers that come back": each call's order, with all later faults present at once, and
+//! output buffers that keep their contents.
+
+use second::parameters::N;
+use second::record::total;
+use second::testing::calls::{run, Answered, Call, Input, OutputLengths, Outputs};
+use second::testing::keys;
+use second::testing::noise::Noise;
+use second::testing::sheet::sign;
+use second::{commitment, compare, key_test, write, Refusal, Set};
+
+/// Refusals of a call, each with what brings it about.
+type Faults<'a> = &'a [(Refusal, &'a dyn Fn(&mut Input))];
+
+/// Runs a call on filled buffers, and sees that a refusal leaves them alone.
+fn answer(call: Call, input: &Input) -> Answered {
+    let lengths = input.lengths;
+    let mut rounded = vec![0xabcd; lengths.rounded];
+    let mut z1 = vec![-77; lengths.z1];
+    let mut z2_dagger = vec![-78; lengths.z2_dagger];
+    let mut list = vec![0xabce; lengths.list];
+    let mut record = vec![0xab; lengths.record];
+    let outputs = Outputs {
+        rounded: &mut rounded,
+        z1: &mut z1,
+        z2_dagger: &mut z2_dagger,
+        list: &mut list,
+        record: &mut record,
+    };
+    let answered = run(call, input, outputs);
+    if answered.number != 0 {
+        assert_eq!(rounded, vec![0xabcd; lengths.rounded]);
+        assert_eq!(z1, vec![-77; lengths.z1]);
+        assert_eq!(z2_dagger, vec![-78; lengths.z2_dagger]);
+        assert_eq!(list, vec![0xabce; lengths.list]);
+        assert_eq!(record, vec![0xab; lengths.record]);
+    }
+    answered
+}
+
+fn refusal(call: Call, input: &Input) -> (u32, u32) {
+    let answered = answer(call, input);
+    (answered.number, answered.place)
+}
+
+/// Brings faults in from the last to the first: the newest fault must be the one that is named,
+/// with all later ones present, and alone.
+fn require_order(call: Call, right: &Input, order: Faults) {
+    assert_eq!(refusal(call, right), (0, 0));
+    let mut faulty = right.clone();
+    for (wanted, fault) in order.iter().rev() {
+        let wanted = (wanted.number, wanted.place);
+        fault(&mut faulty);
+        assert_eq!(refusal(call, &faulty), wanted, "with the faults after it");
+        let mut alone = right.clone();
+        fault(&mut alone);
+        assert_eq!(refusal(call, &alone), wanted, "alone");
+    }
+}
+
+/// An input on which every call is done: a signed sheet and its record.
+fn right_input(set: Set, seed: u64) -> Input {
+    let mut noise = Noise::new(seed);
+    let key = keys::published(set, &mut noise);
+    let signed = sign(set, &key, b"sheet", &mut noise);
+    let (last_try, signature) = (signed.last_try, signed.signature);
+    let mut record = vec![0; total(set)];
+    let (z1, z2_dagger, list) = (signature.z1, signature.z2_dagger, signature.list);
+    write(set.number(), &z1, &z2_dagger, &list, &mut record).unwrap();
+    Input {
+        set: set.number(),
+        f: key.f,
+        g: key.g,
+        a: key.a,
+        y1: last_try.y1,
+        y2: last_try.y2,
+        hashed: list.clone(),
+        list,
+        sign: last_try.sign,
+        thresholds: last_try.thresholds,
+        words: last_try.words,
+        z1,
+        z2_dagger,
+        record,
+        lengths: OutputLengths::stated(set),
+    }
+}
+
+/// Turns one coefficient of a by one: the relation breaks.
+fn break_relation(input: &mut Input) {
+    input.a[3] = (input.a[3] + 1) % 12289;
+}
+
+fn lengthen_key(input: &mut Input) {
+    input.g.fill(2);
+}
+
+#[test]
+fn key_test_order() {
+    for set in Set::ALL {
+        let order: Faults = &[
+            (Refusal::SET, &|input| input.set = 5),
+            (Refusal::LENGTH, &|input| input.g.push(0)),
+            (Refusal::COEFFICIENT, &|input| input.a[511] = 12289),
+            (Refusal::KEY_LENGTH, &lengthen_key),
+            (Refusal::RELATION, &break_relation),
+        ];
+        require_order(Call::KeyTest, &right_input(set, 51), order);
+    }
+}
+
+#[test]
+fn each_vector_of_the_key_is_tested() {
+    let right = right_input(Set::III, 52);
+    let faults: Faults = &[
+        (Refusal::LENGTH, &|input| input.f.truncate(511)),
+        (Refusal::LENGTH, &|input| input.g.clear()),
+        (Refusal::LENGTH, &|input| input.a.push(0)),
+        (Refusal::COEFFICIENT, &|input| input.f[0] = 3),
+        (Refusal::COEFFICIENT, &|input| input.f[511] = -3),
+        (Refusal::COEFFICIENT, &|input| input.g[0] = i8::MIN),
+        (Refusal::COEFFICIENT, &|input| input.g[511] = i8::MAX),
+        (Refusal::COEFFICIENT, &|input| input.a[0] = u16::MAX),
+        (Refusal::RELATION, &|input| input.f.reverse()),
+    ];
+    for (wanted, fault) in faults {
+        let mut input = right.clone();
+        fault(&mut input);
+        let found = refusal(Call::KeyTest, &input);
+        assert_eq!(found, (wanted.number, wanted.place));
+    }
+}
+
+#[test]
+fn the_key_length_is_tested_at_k() {
+    let mut noise = Noise::new(53);
+    for set in Set::ALL {
+        for (excess, outcome) in [(0, Ok(())), (1, Err(Refusal::KEY_LENGTH))] {
+            let key = keys::of_squared_length(set.k() + excess, &mut noise);
+            assert_eq!(key_test(set.number(), &key.f, &key.g, &key.a), outcome);
+        }
+    }
+}
+
+#[test]
+fn commitment_order() {
+    for set in Set::ALL {
+        let order: Faults = &[
+            (Refusal::SET, &|input| input.set = u32::MAX),
+            (Refusal::LENGTH, &|input| input.lengths.rounded = 511),
+            (Refusal::COEFFICIENT, &|input| input.a[0] = 12289),
+            (Refusal::MASK, &|input| input.y2[511] = -4097),
+        ];
+        require_order(Call::Commitment, &right_input(set, 54), order);
+    }
+}
+
+#[test]
+fn masks_at_their_limit() {
+    let mut out = vec![0; N];
+    let (mut y1, mut y2) = (vec![4096; N], vec![-4096; N]);
+    assert_eq!(commitment(4, &[12288; N], &y1, &y2, &mut out), Ok(()));
+    y1[17] = 4097;
+    let outcome = commitment(4, &[12288; N], &y1, &y2, &mut out);
+    assert_eq!(outcome, Err(Refusal::MASK));
+    y1[17] = 0;
+    y2[17] = i16::MIN;
+    let outcome = commitment(4, &[12288; N], &y1, &y2, &mut out);
+    assert_eq!(outcome, Err(Refusal::MASK));
+}
+
+#[test]
+fn response_order() {
+    for set in Set::ALL {
+        let mut right = right_input(set, 55);
+        // A walk that any words pass: the refusals of the length rule come after it.
+        right.thresholds.fill(u64::MAX);
+        let order: Faults = &[
+            (Refusal::SET, &|input| input.set = 5),
+            (Refusal::LENGTH, &|input| input.thresholds.push(0)),
+            (Refusal::COEFFICIENT, &|input| input.f[100] = 3),
+            (Refusal::MASK, &|input| input.y1[0] = 4097),
+            (Refusal::LIST, &|input| input.list[1] = input.list[0]),
+            (Refusal::KEY_LENGTH, &lengthen_key),
+            (Refusal::RELATION, &break_relation),
+            (Refusal::DRAW, &|input| input.thresholds.fill(0)),
+            (Refusal::entry(6), &|input| input.y1[6] = 4000),
+            (Refusal::SUM, &|input| {
+                input.y1.fill(set.largest() as i16 - 300);
+            }),
+        ];
+        require_order(Call::Respond, &right, order);
+    }
+}
+
+#[test]
+fn each_vector_of_the_response_is_of_its_length() {
+    let right = right_input(Set::II, 56);
+    let faults: [&dyn Fn(&mut Input); 5] = [
+        &|input| input.lengths.z1 = 511,
+        &|input| input.lengths.z2_dagger = 513,
+        &|input| input.y1.clear(),
+        &|input| input.y2.push(0),
+        &|input| input.thresholds.truncate(30),
+    ];
+    for fault in faults {
+        let mut input = right.clone();
+        fault(&mut input);
+        // The length goes before the coefficient.
+        input.f[0] = 9;
+        assert_eq!(refusal(Call::Respond, &input), (2, 0));
+    }
+}
+
+#[test]
+fn words_run_out_at_every_count() {
+    for set in Set::ALL {
+        let mut input = right_input(set, 57);
+        let done = answer(Call::Respond, &input);
+        assert_eq!(done.number, 0);
+        let words = input.words.clone();
+        for count in 0..done.words {
+            input.words = words[..count as usize].to_vec();
+            let answered = answer(Call::Respond, &input);
+            assert_eq!((answered.number, answered.words), (9, count));
+        }
+        input.words = words[..done.words as usize].to_vec();
+        assert_eq!(answer(Call::Respond, &input), done);
+    }
+}
+
+#[test]
+fn the_count_stands_beside_refusals_after_the_walk() {
+    let mut input = right_input(Set::I, 58);
+    input.thresholds.fill(u64::MAX);
+    input.y1[200] = -4096;
+    let answered = answer(Call::Respond, &input);
+    assert_eq!((answered.number, answered.place), (10, 200));
+    assert!(answered.words > 0);
+    input.set = 5;
+    let answered = answer(Call::Respond, &input);
+    assert_eq!((answered.number, answered.words), (1, 0));
+}
+
+#[test]
+fn rebuild_order() {
+    for set in Set::ALL {
+        let order: Faults = &[
+            (Refusal::SET, &|input| input.set = 5),
+            (Refusal::LENGTH, &|input| input.lengths.rounded = 513),
+            (Refusal::COEFFICIENT, &|input| input.a[0] = 12289),
+            (Refusal::LIST, &|input| {
+                input.list.pop();
+            }),
+            (Refusal::entry(3), &|input| input.z1[3] = i16::MIN),
+            (Refusal::entry(700), &|input| input.z2_dagger[188] = i8::MIN),
+            (Refusal::SUM, &|input| input.z1.fill(1500)),
+        ];
+        require_order(Call::Rebuild, &right_input(set, 59), order);
+    }
+}
+
+#[test]
+fn comparison_order() {
+    for set in Set::ALL {
+        let differ = |input: &mut Input| {
+            let kappa = input.hashed.len() as u16;
+            input.hashed = (0..kappa).collect();
+        };
+        let claimed: Faults = &[
+            (Refusal::SET, &|input| input.set = 5),
+            (Refusal::LIST, &|input| input.list.push(511)),
+            (Refusal::LISTS_DIFFER, &differ),
+        ];
+        let hashed: Faults = &[
+            (Refusal::SET, &|input| input.set = 5),
+            (Refusal::LIST, &|input| input.hashed.reverse()),
+            (Refusal::LISTS_DIFFER, &differ),
+        ];
+        for order in [claimed, hashed] {
+            require_order(Call::Compare, &right_input(set, 60), order);
+        }
+    }
+}
+
+#[test]
+fn the_form_of_a_list() {
+    let right: Vec<u16> = (0..23).collect();
+    let with = |place: usize, value: u16| {
+        let mut list = right.clone();
+        list[place] = value;
+        compare(1, &list, &right)
+    };
+    assert_eq!(with(22, 22), Ok(()));
+    assert_eq!(with(22, 511), Err(Refusal::LISTS_DIFFER));
+    assert_eq!(with(22, 512), Err(Refusal::LIST));
+    assert_eq!(with(22, 21), Err(Refusal::LIST));
+    assert_eq!(with(0, 1), Err(Refusal::LIST));
+    assert_eq!(with(5, u16::MAX), Err(Refusal::LIST));
+    // Two lists that are alike and improper are refused for their form.
+    assert_eq!(compare(1, &[], &[]), Err(Refusal::LIST));
+    assert_eq!(compare(3, &right, &right), Err(Refusal::LIST));
+}
+
+#[test]
+fn writer_order() {
+    for set in Set::ALL {
+        let order: Faults = &[
+            (Refusal::SET, &|input| input.set = 5),
+            (Refusal::LENGTH, &|input| input.z2_dagger.truncate(511)),
+            (Refusal::LIST, &|input| input.list[0] = 512),
+            (Refusal::entry(0), &|input| input.z1[0] = -2101),
+            (Refusal::entry(512), &|input| input.z2_dagger[0] = 7),
+            (Refusal::SUM, &|input| input.z1.fill(-1500)),
+            (Refusal::ROOM, &|input| input.lengths.record -= 1),
+        ];
+        require_order(Call::Write, &right_input(set, 61), order);
+    }
+}
+
+#[test]
+fn reader_order() {
+    fn put(input: &mut Input, at: usize, value: u16) {
+        input.record[at..at + 2].copy_from_slice(&value.to_le_bytes());
+    }
+    for set in Set::ALL {
+        let order: Faults = &[
+            (Refusal::LENGTH, &|input| input.lengths.list = 38),
+            (Refusal::header(3), &|input| input.record.truncate(3)),
+            (Refusal::header(0), &|input| input.record[3] = b'2'),
+            (Refusal::header(4), &|input| input.record[4] = 5),
+            (Refusal::header(20), &|input| input.record[23] = 1),
+            (Refusal::LIST, &|input| put(input, 1560, 512)),
+            (Refusal::entry(511), &|input| put(input, 24 + 1022, 2101)),
+            (Refusal::entry(1023), &|input| input.record[1559] = 0x80),
+            (Refusal::SUM, &|input| {
+                for i in 0..N {
+                    put(input, 24 + 2 * i, 1500);
+                }
+            }),
+        ];
+        require_order(Call::Read, &right_input(set, 62), order);
+    }
+}

@@ -1,0 +1,218 @@
+/*
+ * bursztok.h - BLISS-B signing and checking, parameter sets I to IV.
+ *
+ * Link with libbursztok.a. C99 and later, and C++.
+ *
+ * LENT MEMORY
+ *
+ *   Each array is a pointer and a length. Lengths count elements, not bytes. The pointer must be
+ *   aligned for its type and good for that many elements; with length 0 it is not used. The library
+ *   keeps no pointer, allocates nothing and holds no state between calls.
+ *
+ *   An array that a call writes must not overlap any other array or number of the same call.
+ *   Arrays that a call only reads may overlap each other.
+ *
+ * ANSWERS
+ *
+ *   Every call answers on all input. `number` says what happened, `place` where; `place` is 0
+ *   except with 10 and 13. No other number than 0 writes to any output array: on a refusal every
+ *   one of them holds what it held before. Each call tests in the order given with it, and answers
+ *   with the first condition that holds.
+ *
+ *    No.  When
+ *     0   done
+ *     1   set above 4
+ *     2   a vector, read or written, is not 512 long, thresholds not 31, or the reader's list
+ *         buffer not 39
+ *     3   coefficient of f, g or a outside its range
+ *     4   mask coefficient outside -4096 .. 4096
+ *     5   list not of the stated form, its count included
+ *     6   key relation does not hold
+ *     7   key longer than K
+ *     8   rejected by the draw
+ *     9   the walk needs a word and none is left
+ *    10   entry beyond "largest", with the first place: z1 is 0 .. 511, z2 dagger 512 .. 1023
+ *    11   sum of squares above B2 squared
+ *    12   both lists are proper and differ
+ *    13   header malformed, with the first byte of the first wrong field; shorter than 24 bytes,
+ *         its length
+ *    14   writer's output shorter than the total
+ *
+ * SETS
+ *
+ *   On calls `set` is 1 to 4 for BLISS-B I to IV; 0 stands for set 1.
+ *
+ *    set  kappa   d   p  largest   B2 squared     K  record bytes
+ *     1     23   10  24     2100  165,688,384   775          1606
+ *     2     23   10  24     1563  122,633,476   775          1606
+ *     3     30    9  48     1760  104,162,436  1409          1620
+ *     4     39    8  96     1613   98,029,801  1784          1638
+ *
+ * VECTORS
+ *
+ *   f, g        secret key, 512 coefficients -2 .. 2
+ *   a           public key, 512 coefficients 0 .. 12288; a times f = 2g + 1 modulo 12289
+ *   y1, y2      masks, 512 coefficients -4096 .. 4096, new for every try
+ *   list        the challenge: exactly kappa places, strictly rising, each below 512
+ *   thresholds  31 numbers; entry i belongs to binary place i, worth 2^i
+ *   words       the noise that the draw reads, from the front
+ *   z1, z2      the signature's two vectors of 512 entries; z2 is z2 dagger of the papers
+ *
+ * SIGNING AND CHECKING A SHEET
+ *
+ *   Signer: draw masks; bursztok_commitment; hash the commitment and the sheet to a list;
+ *   bursztok_respond. With 8 (and with 10 or 11) start again with new masks. Then bursztok_write.
+ *   Checker: bursztok_read; bursztok_rebuild; hash the rebuilt vector and the sheet to a list;
+ *   bursztok_compare the record's list with it. The sheet holds where every call gives 0.
+ *   Noise and hash are the caller's. See examples/sheet.c.
+ */
+#ifndef BURSZTOK_H
+#define BURSZTOK_H
+
+#include <stdbool.h>
+#include <stddef.h>
+#include <stdint.h>
+
+#ifdef __cplusplus
+extern "C" {
+#endif
+
+/* The length of every vector. */
+#define BURSZTOK_VECTOR 512
+/* The length of the row of thresholds. */
+#define BURSZTOK_THRESHOLDS 31
+/* The length of the reader's list buffer: no list is longer. */
+#define BURSZTOK_LIST 39
+/* The length of the longest record. */
+#define BURSZTOK_RECORD 1638
+
+typedef struct {
+    uint32_t number, place;
+} bursztok_answer;
+
+/* `words` is the count of words that the draw took: 0 for refusals before the draw (1 to 7), the
+ * number of words lent with 9, and with 8 the failing word is counted. */
+typedef struct {
+    uint32_t number, place;
+    uint64_t words;
+} bursztok_response;
+
+/* `set` is the set that the record states, 1 to 4, and 0 when the reader refuses. */
+typedef struct {
+    uint32_t number, place, set;
+} bursztok_reading;
+
+/* A part of the lent record: the bytes start .. start + length - 1. */
+typedef struct {
+    uint64_t start, length;
+} bursztok_part;
+
+/*
+ * The key test: f, g and a are in range, the squared length of (f, 2g + 1) is at most K, and
+ * a times f = 2g + 1 modulo 12289.
+ *
+ * Refusals in order: 1, 2, 3, 7, 6. Writes nothing.
+ */
+bursztok_answer bursztok_key_test(uint32_t set,
+                                  const int8_t *f, size_t f_len,
+                                  const int8_t *g, size_t g_len,
+                                  const uint16_t *a, size_t a_len);
+
+/*
+ * The commitment to the masks: the upper digits of u = 12288 (a y1) + y2 modulo 24578, 512
+ * numbers 0 .. p - 1. The caller hashes them with the sheet to make the list.
+ *
+ * Refusals in order: 1, 2, 3, 4. Number 0 writes all of out (512 entries).
+ */
+bursztok_answer bursztok_commitment(uint32_t set,
+                                    const uint16_t *a, size_t a_len,
+                                    const int16_t *y1, size_t y1_len,
+                                    const int16_t *y2, size_t y2_len,
+                                    uint16_t *out, size_t out_len);
+
+/*
+ * The response to a list: z1 and z2 dagger of the signature, for the masks that the list was
+ * made from. sign is the random sign bit; it must be 0 or 1.
+ *
+ * Refusals in order: 1, 2, 3, 4, 5, 7, 6, then 8 or 9 as the walk ends, then 10, 11.
+ * Number 0 writes all of z1 and z2 (512 entries each). 2 covers z1 and z2 too.
+ * With 8, 10 and 11 the try is spent: new masks, a new list, new words. With 9 lend more words.
+ */
+bursztok_response bursztok_respond(uint32_t set,
+                                   const int8_t *f, size_t f_len,
+                                   const int8_t *g, size_t g_len,
+                                   const uint16_t *a, size_t a_len,
+                                   const int16_t *y1, size_t y1_len,
+                                   const int16_t *y2, size_t y2_len,
+                                   const uint16_t *list, size_t list_len,
+                                   bool sign,
+                                   const uint64_t *thresholds, size_t thresholds_len,
+                                   const uint64_t *words, size_t words_len,
+                                   int16_t *z1, size_t z1_len,
+                                   int8_t *z2, size_t z2_len);
+
+/*
+ * The rebuild: from the public key, a signature and its list, the vector that the signer
+ * committed to. The caller hashes it with the sheet, as after bursztok_commitment.
+ *
+ * Refusals in order: 1, 2, 3, 5, 10, 11. Number 0 writes all of out (512 entries).
+ */
+bursztok_answer bursztok_rebuild(uint32_t set,
+                                 const uint16_t *a, size_t a_len,
+                                 const int16_t *z1, size_t z1_len,
+                                 const int8_t *z2, size_t z2_len,
+                                 const uint16_t *list, size_t list_len,
+                                 uint16_t *out, size_t out_len);
+
+/*
+ * The comparison of the list that a signature claims with the list that the caller hashed.
+ *
+ * Refusals in order: 1, 5 (either list), 12. Writes nothing.
+ */
+bursztok_answer bursztok_compare(uint32_t set,
+                                 const uint16_t *claimed, size_t claimed_len,
+                                 const uint16_t *hashed, size_t hashed_len);
+
+/*
+ * The record writer.
+ *
+ * Refusals in order: 1, 2, 5, 10, 11, 14. Number 0 writes the first bytes of out, as many as the
+ * set's record has (see SETS); a longer out keeps its tail. A set of 0 is written as 1.
+ */
+bursztok_answer bursztok_write(uint32_t set,
+                               const int16_t *z1, size_t z1_len,
+                               const int8_t *z2, size_t z2_len,
+                               const uint16_t *list, size_t list_len,
+                               uint8_t *out, size_t out_len);
+
+/*
+ * The record reader. record_len must be exactly the length of the record: any other is 13 at 18
+ * (under 24, at the length). list_len must be 39.
+ *
+ * Refusals in order: 2, 13, 5, 10, 11. Number 0 writes all of z1 and z2 (512 entries each) and
+ * the first kappa entries of list; the entries after them keep their contents.
+ */
+bursztok_reading bursztok_read(const uint8_t *record, size_t record_len,
+                               int16_t *z1, size_t z1_len,
+                               int8_t *z2, size_t z2_len,
+                               uint16_t *list, size_t list_len);
+
+/*
+ * The section calls: where the z1 bytes (two an entry, low byte first), the z2 dagger bytes (one
+ * an entry) and the list bytes (two a place, low byte first) lie in the lent record. They test the
+ * header only, with the record's length.
+ *
+ * Refusals: 13 only, and then the part is 0 .. 0. *number and *place are written always.
+ */
+bursztok_part bursztok_z1_section(const uint8_t *record, size_t record_len,
+                                  uint32_t *number, uint32_t *place);
+bursztok_part bursztok_z2_section(const uint8_t *record, size_t record_len,
+                                  uint32_t *number, uint32_t *place);
+bursztok_part bursztok_list_section(const uint8_t *record, size_t record_len,
+                                    uint32_t *number, uint32_t *place);
+
+#ifdef __cplusplus
+}
+#endif
+
+#endif
