@@ -2,7 +2,7 @@
 -- Assumes nothing.
 use mathlib.Core.Path.{_≡_, refl, ap, ap₂, sym, fun-ext, _∙_}
 use mathlib.Core.List.{List, [], _∷_}
-use Prim.Native.Nat.{ℕ, zero, suc, _+_, _*_, _/_, _%_, _<_, _≤_}
+use Prim.Native.Nat.{ℕ, zero, suc, _+_, _*_, _/_, _%_, _≤_}
 use native.Mathlib.Nat as N
 use native.Mathlib.Omega.{arith}
 use Rattle.laws.specs.Lists.{tabulate}
@@ -12,13 +12,13 @@ use Rattle.polynomials.specs.Field.{add, mul}
 use Rattle.ring.specs.Powers.{power}
 
 -- a product does not change when a factor is reduced
-pub mod-left : (a b m : ℕ) → a % m * b % m ≡ a * b % m
+mod-left : (a b m : ℕ) → a % m * b % m ≡ a * b % m
 mod-left a b m =
     sym (ap (λ (n : ℕ). n * b % m) (sym (N.mod-add-div a m))
     ∙ ap (λ (n : ℕ). n % m) (N.add-mul (a % m) (m * (a / m)) b ∙ ap (λ (n : ℕ). a % m * b + n) (N.mul-assoc m (a / m) b))
     ∙ N.add-mul-mod-self-left (a % m * b) m (a / m * b))
 
-pub mod-right : (a b m : ℕ) → a * (b % m) % m ≡ a * b % m
+mod-right : (a b m : ℕ) → a * (b % m) % m ≡ a * b % m
 mod-right a b m = ap (λ (n : ℕ). n % m) (N.mul-comm a (b % m)) ∙ mod-left b a m ∙ ap (λ (n : ℕ). n % m) (N.mul-comm b a)
 
 pub add-comm : (x y : ℕ) → add x y ≡ add y x

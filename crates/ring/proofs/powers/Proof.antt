@@ -1,5 +1,4 @@
 -- `ring::powers` meets its contract: one test over the whole table, which antt computes. Assumes nothing.
-use mathlib.Core.Path.{refl, _∙_}
 use Rattle.ring.specs.Powers.{Powers}
 use Rattle.ring.proofs.Field.{onward, onward-powers}
 use Rattle.ring.proofs.powers.Statement.{statement}

@@ -1,10 +1,8 @@
 -- `ring_run::modulo` is safe: y + 4q is not negative. Assumes nothing.
-use Prim.Native.Nat.{ℕ, _≤_}
+use Prim.Native.Nat.{_≤_}
 use native.Mathlib.Omega.{arith}
 use borrow.Author.Needs.{needs}
-use lib.Dec.{T}
-use lib.IntN.{ℤ, pos, natAbs, _+ℤ_}
-use lib.Signed.{nonNeg}
+use lib.IntN.{pos, natAbs, _+ℤ_}
 use mir.Syntax.{w16, w32}
 use mir.Val.{toZ, ofZ}
 use Rattle.laws.proofs.Bounds.{abs-mag, abs-add}

@@ -1,9 +1,7 @@
 -- `ring_run::number` is safe and ends. Assumes nothing.
-use mathlib.Core.Path.{_≡_}
 use Prim.Native.Nat.{_≤_, _-_}
 use native.Mathlib.Omega.{arith}
 use borrow.Author.Needs.{needs}
-use lib.ListN.{length, length-set}
 use Rattle.ring_run.proofs.number.Statement.{statement}
 use Rattle.ring_run.proofs.number.Tie as tie
 
