@@ -1,1 +1,3 @@
--- Laws.
+-- What the response's proofs cite.
+pub mod Numbers
+pub mod Given

@@ -1,87 +1,89 @@
+use mathlib.Core.Path.{_≡_, ap, _∙_}
+use mathlib.Core.List.{List}
+use lib.IntN.{ℤ}
+use Rattle.limits.specs.LengthRule.{lengthRule}
+use Rattle.commitment.specs.Commitment.{sums}
+use Rattle.commitment.proofs.Sums.{reduced-zip}
+use Rattle.signing.specs.Response.{daggers}
+use Rattle.signing.proofs.Given.{given-refused, given-out}
 use borrow.Author.Needs.{needs}
 use Rattle.signing.proofs.give.Statement.{statement}
 use Rattle.signing.proofs.give.Tie as tie
-use Rattle.signing.proofs.give.Reads as reads
-use Rattle.signing.proofs.give.Lts as lts
-use Rattle.answers.proofs.Outcome.is_done.Reads as is-done-reads
-use Rattle.commitment.proofs.add_sums.Reads as add-sums-reads
-use Rattle.limits.proofs.length_rule.Reads as length-rule-reads
-use Rattle.ring.proofs.multiply.Reads as multiply-reads
-use Rattle.signing.proofs.copy_bytes.Reads as copy-bytes-reads
-use Rattle.signing.proofs.make_daggers.Reads as make-daggers-reads
-use Rattle.vectors.proofs.copy.Reads as copy-reads
 
--- src/lib.rt:271:37
 slice-aggregate-multiply : tie.Need-slice-aggregate-multiply
 slice-aggregate-multiply c = search needs
 
--- src/lib.rt:271:5
 multiply-requires : tie.Need-multiply-requires
 multiply-requires c κs = search needs
 
--- src/lib.rt:273:26
 slice-aggregate-add-sums : tie.Need-slice-aggregate-add-sums
 slice-aggregate-add-sums c = search needs
 
--- src/lib.rt:273:34
 slice-aggregate-add-sums-2 : tie.Need-slice-aggregate-add-sums-2
 slice-aggregate-add-sums-2 c = search needs
 
--- src/lib.rt:273:5
 add-sums-requires : tie.Need-add-sums-requires
 add-sums-requires c κs = search needs
 
--- src/lib.rt:275:21
 slice-aggregate-make-daggers : tie.Need-slice-aggregate-make-daggers
 slice-aggregate-make-daggers c = search needs
 
--- src/lib.rt:275:29
 slice-aggregate-make-daggers-2 : tie.Need-slice-aggregate-make-daggers-2
 slice-aggregate-make-daggers-2 c = search needs
 
--- src/lib.rt:275:5
 make-daggers-requires : tie.Need-make-daggers-requires
-make-daggers-requires c κs = ?
+make-daggers-requires c κs =
+    (search needs, search needs, search needs, rw (c .before .before .before .add-sums .ensures) (reduced-zip _ _))
 
--- src/lib.rt:276:40
 slice-aggregate-length-rule : tie.Need-slice-aggregate-length-rule
 slice-aggregate-length-rule c = search needs
 
--- src/lib.rt:276:9
 length-rule-requires : tie.Need-length-rule-requires
 length-rule-requires c κs = search needs
 
--- src/lib.rt:277:9
 is-done-requires : tie.Need-is-done-requires
 is-done-requires c κs = search needs
 
--- src/lib.rt:278:9
-returns : tie.Need-returns
-returns c = ?
+module _ (c : tie.After-length-rule) where
+  abbrev start : tie.Start
+  start = c .before .before .before .before .before .before .before .before .before .before .before .before .before .before .before
 
--- src/lib.rt:283:5
+  abbrev D : List ℤ
+  D = daggers (start .args .s) (sums (start .args .a .now) (start .args .y1 .now) (start .args .y2 .now)) (start .args .w2 .now)
+
+  rounded : c .before .before .before .make-daggers .last .1 .1 .1 .0 ≡ D
+  unfolding sums
+  rounded = cc
+
+  ruled : c .length-rule .result ≡ lengthRule (start .args .s) (start .args .w1 .now) D
+  ruled = c .length-rule .ensures ∙ ap (lengthRule (start .args .s) (start .args .w1 .now)) rounded
+
+returns : tie.Need-returns
+returns c =
+    let l = c .before .before in
+    given-refused (start l .args .s) (start l .args .taken) (start l .args .w1 .now) (D l) _ _ (l .length-rule .result) _ (ruled l) (c .before .is-done .ensures) (c .if1 .taken)
+
 copy-requires : tie.Need-copy-requires
 copy-requires c κs = search needs
 
--- src/lib.rt:284:20
 slice-aggregate-copy-bytes : tie.Need-slice-aggregate-copy-bytes
 slice-aggregate-copy-bytes c = search needs
 
--- src/lib.rt:284:5
 copy-bytes-requires : tie.Need-copy-bytes-requires
 copy-bytes-requires c κs = search needs
 
--- src/lib.rt:264:1
 same-length : tie.Need-same-length
 same-length c = search needs
 
--- src/lib.rt:264:1
 same-length-2 : tie.Need-same-length-2
 same-length-2 c = search needs
 
--- src/lib.rt:264:1
 returns-2 : tie.Need-returns-2
-returns-2 c = ?
+returns-2 c =
+    let b = c .before .before .before .before .before .before .before in
+    let l = b .before .before in
+    given-out (start l .args .s) (start l .args .taken) (start l .args .w1 .now) (D l) _ _ (l .length-rule .result) _ (ruled l) (b .before .is-done .ensures) (b .if1 .left) _ _
+    (c .before .before .before .before .before .copy .ensures) (c .before .copy-bytes .ensures ∙ rounded l)
 
 pub give-spec : {M : Type 1} → statement M
 give-spec =

@@ -23,22 +23,32 @@ copy-requires : tie.Need-copy-requires
 copy-requires c κs = search needs
 
 subtract-from-requires : tie.Need-subtract-from-requires
-subtract-from-requires c κs = ?
+subtract-from-requires c κs =
+    let s = c .before .before .before .before .before in
+    let e = c .before .before .before .copy .ensures in
+    (ap length e ∙ s .pre .0 .0, s .pre .0 .1, carried _ _ (s .args .v .now) e (s .pre .1))
 
 add-to-requires : tie.Need-add-to-requires
-add-to-requires c κs = ?
+add-to-requires c κs =
+    let s = c .before .before .before .before .before in
+    let e = c .before .before .before .copy .ensures in
+    (ap length e ∙ s .pre .0 .0, s .pre .0 .1, carried _ _ (s .args .v .now) e (s .pre .1))
 
 same-length : tie.Need-same-length
 same-length c = search needs
 
 returns : tie.Need-returns
-returns c = ?
+returns c =
+    let e = c .before .before .before .before .before .copy .ensures in
+    picked (c .before .before .before .before .before .before .before .args .sign) false _ _ _ _ (c .before .subtract-from .ensures) e (ap not (c .before .before .before .if1 .taken))
 
 same-length-2 : tie.Need-same-length-2
 same-length-2 c = search needs
 
 returns-2 : tie.Need-returns-2
-returns-2 c = ?
+returns-2 c =
+    let e = c .before .before .before .before .before .copy .ensures in
+    picked (c .before .before .before .before .before .before .before .args .sign) true _ _ _ _ (c .before .add-to .ensures) e (ap not (c .before .before .before .if1 .left))
 
 pub mask-spec : {M : Type 1} → statement M
 mask-spec =

@@ -22,8 +22,8 @@ inner-product-requires-2 : tie.Need-inner-product-requires-2
 inner-product-requires-2 c κs = (c .before .pre .0 .1, c .before .pre .0 .3, omega arith)
 
 module _ (c : tie.After-inner-product2) where
-  abbrev a : tie.Args
-  a = c .before .before .args
+  abbrev start : tie.Start
+  start = c .before .before
 
   abbrev x : ℤ
   x = c .before .inner-product .result
@@ -39,7 +39,7 @@ module _ (c : tie.After-inner-product2) where
 
   room : natAbs x + natAbs y < 1073741824
   room =
-      omega (arith, ap natAbs (c .before .inner-product .ensures), ap natAbs (c .inner-product2 .ensures), inner-le-sizes (a .z1 .now) (a .v1 .now), inner-le-sizes (a .z2 .now) (a .v2 .now), c .before .before .pre .1)
+      omega (arith, ap natAbs (c .before .inner-product .ensures), ap natAbs (c .inner-product2 .ensures), inner-le-sizes (start .args .z1 .now) (start .args .v1 .now), inner-le-sizes (start .args .z2 .now) (start .args .v2 .now), c .before .before .pre .1)
 
   whole : Reads w32 (ofZ w32 (toZ w32 (ofZ w32 x) +ℤ toZ w32 (ofZ w32 y))) (x +ℤ y)
   whole = add-is x-is y-is (omega (arith, room))
@@ -47,7 +47,7 @@ module _ (c : tie.After-inner-product2) where
   small : natAbs (x +ℤ y) < 1073741824
   small = omega (arith, abs-add x y, room)
 
-  is-inner : x +ℤ y ≡ inner (a .z1 .now) (a .v1 .now) +ℤ inner (a .z2 .now) (a .v2 .now)
+  is-inner : x +ℤ y ≡ inner (start .args .z1 .now) (start .args .v1 .now) +ℤ inner (start .args .z2 .now) (start .args .v2 .now)
   is-inner = ap₂ _+ℤ_ (c .before .inner-product .ensures) (c .inner-product2 .ensures)
 
 add-inner : tie.Need-add-inner
@@ -61,7 +61,7 @@ module _ (c : tie.Then1) where
   negative : above d + under (pos 0) < above (pos 0) + under d
   negative = lt-yes d (pos 0) (lt-is (whole (c .before)) (held w32 0) (c .if1 .taken))
 
-  turned : Reads w32 _ (pos 0 -ℤ d)
+  turned : Reads w32 (ofZ w32 (pos 0 -ℤ toZ w32 (ofZ w32 (toZ w32 (ofZ w32 (x (c .before))) +ℤ toZ w32 (ofZ w32 (y (c .before))))))) (pos 0 -ℤ d)
   turned = sub-is (held w32 0) (whole (c .before)) (omega (arith, small (c .before)))
 
   turned-size : natAbs (pos 0 -ℤ d) ≡ natAbs d
