@@ -1,5 +1,5 @@
 -- The ways on through a response: a refusal before the draw, the lengths that were tested, and what the sign choices bring to the draw. Assumes nothing.
-use mathlib.Core.Path.{_≡_, refl, sym, ap, ap₂, subst, _∙_}
+use mathlib.Core.Path.{_≡_, refl, sym, ap, ap₂, subst}
 use mathlib.Core.Bool.{Bool, true, not, _&&_}
 use mathlib.Core.List.{List}
 use Prim.Native.Nat.{ℕ, _+_, _*_, _≤_}
@@ -7,8 +7,8 @@ use native.Mathlib.Nat.{mul-le-mul-left}
 use native.Mathlib.Omega.{arith}
 use borrow.Author.Tests.{eqb-true, leb-true}
 use lib.Dec.{eqb, leb}
-use lib.IntN.{ℤ, pos, natAbs}
-use lib.ListN.{length, getD}
+use lib.IntN.{ℤ}
+use lib.ListN.{length}
 use Rattle.laws.specs.Lists.{every, zipWith}
 use Rattle.laws.specs.Refusals.{must}
 use Rattle.laws.proofs.Chain.{and-left, and-right}
@@ -24,12 +24,12 @@ use Rattle.vectors.specs.Places.{properList}
 use Rattle.vectors.proofs.Ranges.{within-at}
 use Rattle.vectors.proofs.Rising.{proper-count, proper-places}
 use Rattle.keys.specs.Key.{keyLength, relation, properKey, sized}
-use Rattle.keys.proofs.Ranges.{sized-is, sized-four}
+use Rattle.keys.proofs.Ranges.{sized-is}
 use Rattle.choices.specs.Choices.{Pair, pair, squaresPair, signed, choices}
 use Rattle.choices.proofs.Pairs.{Sized, Within}
 use Rattle.choices.proofs.Bound.{choices-sized, choices-bound}
 use Rattle.choices.proofs.Sums.{choices-within}
-use Rattle.signing.specs.Response.{Responded, responded, masked, drawn}
+use Rattle.signing.specs.Response.{responded, masked, drawn}
 
 -- a refusal before the draw
 pub refusal-at : (o o′ : Outcome) (n : ℕ) (x y : List ℤ) → o ≡ o′ → n ≡ 0 → responded o n x y ≡ responded o′ 0 x y
@@ -46,9 +46,10 @@ sized-eight f g a y1 y2 z1 z2 thresholds e =
     let e₃ = and-right (sized a) _ e₂ in
     let e₄ = and-right (sized y1) _ e₃ in
     let e₅ = and-right (sized y2) _ e₄ in
-    let e₆ = and-right (sized z1) _ e₅ in
-    ((sized-is f (and-left (sized f) _ e), sized-is g (and-left (sized g) _ e₁), sized-is a (and-left (sized a) _ e₂), eqb-true (length thresholds) places (and-right (sized z2) _ e₆)),
-    (sized-is y1 (and-left (sized y1) _ e₃), sized-is y2 (and-left (sized y2) _ e₄), sized-is z1 (and-left (sized z1) _ e₅), sized-is z2 (and-left (sized z2) _ e₆)))
+    let e₆ = and-right (sized z1) _ e₅ in (
+      (sized-is f (and-left (sized f) _ e), sized-is g (and-left (sized g) _ e₁), sized-is a (and-left (sized a) _ e₂), eqb-true (length thresholds) places (and-right (sized z2) _ e₆)),
+      (sized-is y1 (and-left (sized y1) _ e₃), sized-is y2 (and-left (sized y2) _ e₄), sized-is z1 (and-left (sized z1) _ e₅), sized-is z2 (and-left (sized z2) _ e₆)),
+    )
 
 -- ---- the key
 pub short-key : (s : Set) (a : List ℕ) (s1 s2 : List ℤ) → isDone (properKey s a s1 s2) ≡ true → squares s1 + squares s2 ≤ keyLimitOf s

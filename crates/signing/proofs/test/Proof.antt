@@ -8,13 +8,12 @@ use lib.IntN.{ℤ}
 use lib.ListN.{length}
 use Rattle.laws.specs.Lists.{every}
 use Rattle.laws.proofs.Chain.{stop, pass, passed}
-use Rattle.sets.specs.Numbers.{dimension}
 use Rattle.vectors.specs.Vectors.{within}
 use Rattle.vectors.proofs.Ranges.{within-wider}
 use Rattle.keys.specs.Key.{inRange, second}
 use Rattle.keys.proofs.Ranges.{f-small, g-small}
 use Rattle.keys.proofs.Second.{second-within, length-second}
-use Rattle.signing.specs.Response.{Responded, tested, signedWith}
+use Rattle.signing.specs.Response.{tested, signedWith}
 use Rattle.signing.proofs.Ways.{refusal-at}
 use Rattle.signing.proofs.test.Statement.{statement}
 use Rattle.signing.proofs.test.Tie as tie
@@ -148,10 +147,13 @@ sign-with-requires : tie.Need-sign-with-requires
 sign-with-requires c κs =
     let m = c .before .before .before .before .before in
     let r = passed-tests m in
-    let p = start (at r) .pre in
-    ((ap length (is-f (at r)) ∙ p .0 .0, ap length (made m) ∙ length-second (g (at r)) ∙ p .0 .1, p .0 .2, p .0 .3),
-    (p .1,
-    (ap (every (within 5)) (is-f (at r)) ∙ wider r, ap (every (within 5)) (made m) ∙ second-within (g (at r)) (small r), passed (r .before .before .before .are-masks .ensures) (r .before .before .if2 .left), passed (r .before .is-proper .ensures) (r .if3 .left))))
+    let p = start (at r) .pre in (
+      (ap length (is-f (at r)) ∙ p .0 .0, ap length (made m) ∙ length-second (g (at r)) ∙ p .0 .1, p .0 .2, p .0 .3),
+      (
+        p .1,
+        (ap (every (within 5)) (is-f (at r)) ∙ wider r, ap (every (within 5)) (made m) ∙ second-within (g (at r)) (small r), passed (r .before .before .before .are-masks .ensures) (r .before .before .if2 .left), passed (r .before .is-proper .ensures) (r .if3 .left)),
+      ),
+    )
 
 same-length : tie.Need-same-length
 same-length c = search needs
