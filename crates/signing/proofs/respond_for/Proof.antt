@@ -1,5 +1,6 @@
 use borrow.Author.Needs.{needs}
-use Rattle.laws.proofs.Chain.{stop, pass, passed}
+use Rattle.laws.proofs.Chain.{passed}
+use Rattle.answers.proofs.Calls.{calls}
 use Rattle.signing.specs.Response.{responseFor}
 use Rattle.signing.proofs.Ways.{refusal-at, sized-eight}
 use Rattle.signing.proofs.respond_for.Statement.{statement}
@@ -13,9 +14,7 @@ refusal-requires c κs = search needs
 
 returns : tie.Need-returns
 unfolding responseFor
-returns c =
-    stop _ _ _ _ _ (c .before .before .all-sized .ensures) (c .before .if1 .taken)
-    (refusal-at _ _ _ _ _ (c .refusal .ensures .0) (c .refusal .ensures .1))
+returns c = search (calls, refusal-at)
 
 test-requires : tie.Need-test-requires
 test-requires c κs =
@@ -32,9 +31,7 @@ same-length-2 c = search needs
 
 returns-2 : tie.Need-returns-2
 unfolding responseFor
-returns-2 c =
-    let t = c .before .before .before .before .before in
-    pass _ _ _ _ _ (t .before .all-sized .ensures) (t .if1 .left) (c .before .before .test .ensures)
+returns-2 c = search calls
 
 pub respond-for-spec : {M : Type 1} → statement M
 respond-for-spec =
