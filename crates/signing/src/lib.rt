@@ -75,13 +75,31 @@ fn respond_for(
         ≡ responseFor s (now (f .entry)) (now (g .entry)) (now (a .entry)) (now (y1 .entry)) (now (y2 .entry)) (now (list .entry)) sign
         (now (thresholds .entry)) (now (words .entry)) (now (z1 .entry)) (now (z2 .entry)) ⌝ }
 {
-    if !all_sized(f.len(), g.len(), a.len(), y1.len(), y2.len(), z1.len(), z2.len(), thresholds.len()) {
+    if !all_sized(
+        f.len(),
+        g.len(),
+        a.len(),
+        y1.len(),
+        y2.len(),
+        z1.len(),
+        z2.len(),
+        thresholds.len(),
+    ) {
         return refusal(Outcome::WrongLength);
     }
     test(s, f, g, a, y1, y2, list, sign, thresholds, words, z1, z2)
 }
 
-fn all_sized(f: usize, g: usize, a: usize, y1: usize, y2: usize, z1: usize, z2: usize, thresholds: usize) -> bool
+fn all_sized(
+    f: usize,
+    g: usize,
+    a: usize,
+    y1: usize,
+    y2: usize,
+    z1: usize,
+    z2: usize,
+    thresholds: usize,
+) -> bool
     ensures { λ r. ⌜ r ≡ eqb f dimension && (eqb g dimension && (eqb a dimension && (eqb y1 dimension && (eqb y2 dimension && (eqb z1 dimension && (eqb z2 dimension && eqb thresholds places)))))) ⌝ }
 {
     if f != Set::DIMENSION {
@@ -143,7 +161,20 @@ fn test(
         return refusal(Outcome::ImproperList);
     }
     keys::make_second(&mut s2);
-    sign_with(s, &s1, &s2, a, y1, y2, list, sign, thresholds, words, z1, z2)
+    sign_with(
+        s,
+        &s1,
+        &s2,
+        a,
+        y1,
+        y2,
+        list,
+        sign,
+        thresholds,
+        words,
+        z1,
+        z2,
+    )
 }
 
 // Refusals 7, 6, and the sign choices. The key is transformed once, for its relation and for u.
@@ -177,7 +208,20 @@ fn sign_with(
     let mut v1 = [0i16; Set::DIMENSION];
     let mut v2 = [0i16; Set::DIMENSION];
     choices::choose(s1, s2, list, &mut v1, &mut v2);
-    draw_for(s, a, &spectrum, y1, y2, &v1, &v2, sign, thresholds, words, z1, z2)
+    draw_for(
+        s,
+        a,
+        &spectrum,
+        y1,
+        y2,
+        &v1,
+        &v2,
+        sign,
+        thresholds,
+        words,
+        z1,
+        z2,
+    )
 }
 
 // z = y + v or y - v, and the walk: refusals 8 or 9.
@@ -261,7 +305,18 @@ fn second_trial(z1: &[i16], z2: &[i16], v1: &[i16], v2: &[i16]) -> u32
 }
 
 // u, z2 dagger and the length rule: refusals 10, 11.
-fn give(s: Set, a: &[u16], spectrum: &[u16], y1: &[i16], y2: &[i16], w1: &[i16], w2: &[i16], taken: usize, z1: &mut [i16], z2: &mut [i8]) -> Response
+fn give(
+    s: Set,
+    a: &[u16],
+    spectrum: &[u16],
+    y1: &[i16],
+    y2: &[i16],
+    w1: &[i16],
+    w2: &[i16],
+    taken: usize,
+    z1: &mut [i16],
+    z2: &mut [i8],
+) -> Response
     requires { ⌜ (length (now a) ≡ dimension) × (length (now w1) ≡ dimension) × (length (now w2) ≡ dimension) × (now spectrum ≡ spectrumOf (now a)) ⌝ }
     requires { ⌜ (length (now y1) ≡ dimension) × (length (now y2) ≡ dimension) × (length (now z1) ≡ dimension) × (length (now z2) ≡ dimension) ⌝ }
     ensures { λ r. ⌜ responded (r .outcome) (r .words) (now (z1 .exit)) (now (z2 .exit))
