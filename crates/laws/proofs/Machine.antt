@@ -41,10 +41,10 @@ positive w n h = record { back = toZ-pos w n h }
 
 -- ---- operations
 module _ {w : Width} {n m : ℕ} {x y : ℤ} (p : Reads w n x) (q : Reads w m y) (o : ℤ → ℤ → ℤ) (h : SFits w (o x y)) where
-  operation-ok : SFits w (o (toZ w n) (toZ w m))
+  pub operation-ok : SFits w (o (toZ w n) (toZ w m))
   operation-ok = rw (p .back, q .back) h
 
-  operation-is : Reads w (ofZ w (o (toZ w n) (toZ w m))) (o x y)
+  pub operation-is : Reads w (ofZ w (o (toZ w n) (toZ w m))) (o x y)
   operation-is = record { back = toZ-ofZ operation-ok ∙ rw (p .back, q .back) }
 
 module _ {w : Width} {n m : ℕ} {x y : ℤ} (p : Reads w n x) (q : Reads w m y) where

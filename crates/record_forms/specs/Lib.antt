@@ -1,0 +1,3 @@
+-- 01, "The record".
+pub mod Bytes
+pub mod Headers
