@@ -62,3 +62,71 @@ pub fn signed8(x: u8) -> i8
         -1 - ((255 - x) as i8)
     }
 }
+
+// ---- sections: two bytes an entry of z1 and of the list, one of z2 dagger
+
+pub fn pack_wide(entries: &[i16], out: &mut [u8])
+    requires { ⌜ length (now out) ≡ 2 * length (now entries) ⌝ }
+    ensures { λ _. ⌜ now (out .exit) ≡ packed 2 (map (complement 16) (now (entries .entry))) ⌝ }
+{
+    let mut i = 0;
+    while i < entries.len() {
+        put_number(out, 2 * i, bits16(entries[i]));
+        i += 1;
+    }
+}
+
+pub fn pack_narrow(entries: &[i8], out: &mut [u8])
+    requires { ⌜ length (now out) ≡ 1 * length (now entries) ⌝ }
+    ensures { λ _. ⌜ now (out .exit) ≡ packed 1 (map (complement 8) (now (entries .entry))) ⌝ }
+{
+    let mut i = 0;
+    while i < entries.len() {
+        out[i] = bits8(entries[i]);
+        i += 1;
+    }
+}
+
+pub fn pack_places(entries: &[u16], out: &mut [u8])
+    requires { ⌜ length (now out) ≡ 2 * length (now entries) ⌝ }
+    ensures { λ _. ⌜ now (out .exit) ≡ packed 2 (now (entries .entry)) ⌝ }
+{
+    let mut i = 0;
+    while i < entries.len() {
+        put_number(out, 2 * i, entries[i]);
+        i += 1;
+    }
+}
+
+pub fn unpack_wide(bytes: &[u8], entries: &mut [i16])
+    requires { ⌜ length (now bytes) ≡ 2 * length (now entries) ⌝ }
+    ensures { λ _. ⌜ now (entries .exit) ≡ map (signed 16) (unpacked 2 (length (now (entries .entry))) (now (bytes .entry))) ⌝ }
+{
+    let mut i = 0;
+    while i < entries.len() {
+        entries[i] = signed16(number_at(bytes, 2 * i));
+        i += 1;
+    }
+}
+
+pub fn unpack_narrow(bytes: &[u8], entries: &mut [i8])
+    requires { ⌜ length (now bytes) ≡ 1 * length (now entries) ⌝ }
+    ensures { λ _. ⌜ now (entries .exit) ≡ map (signed 8) (unpacked 1 (length (now (entries .entry))) (now (bytes .entry))) ⌝ }
+{
+    let mut i = 0;
+    while i < entries.len() {
+        entries[i] = signed8(bytes[i]);
+        i += 1;
+    }
+}
+
+pub fn unpack_places(bytes: &[u8], entries: &mut [u16])
+    requires { ⌜ length (now bytes) ≡ 2 * length (now entries) ⌝ }
+    ensures { λ _. ⌜ now (entries .exit) ≡ unpacked 2 (length (now (entries .entry))) (now (bytes .entry)) ⌝ }
+{
+    let mut i = 0;
+    while i < entries.len() {
+        entries[i] = number_at(bytes, 2 * i);
+        i += 1;
+    }
+}
