@@ -1,5 +1,6 @@
 // The form of a record: its header, and numbers as bytes (01, "The record").
 pub mod codes;
+
 ghost use mathlib.Core.Path.{_≡_};
 ghost use Prim.Native.Nat.{_≤_};
 ghost use lib.ListN.{length};
@@ -13,7 +14,9 @@ pub const LETTERS: [u8; 4] = *b"BLB1";
 
 // Where z1, z2 dagger and the list start.
 pub const Z1_OFFSET: usize = 24;
+
 pub const Z2_OFFSET: usize = 1048;
+
 pub const LIST_OFFSET: usize = 1560;
 
 // What a record's header says: its set, or the first byte of the first wrong field.

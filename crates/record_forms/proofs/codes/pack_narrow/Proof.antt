@@ -40,15 +40,17 @@ loop-less c = search needs
 loop-again : tie.Need-loop-again Inv-loop μ-loop
 loop-again c =
     let q = c .before .before .before in
-    let s = q .before .before in
-    (omega arith, map-one-more (complement 8) (s .args .entries .now) (s .args .out .now) (pos 0) _ (omega arith)
-    (c .bits8 .ensures ∙ ap (complement 8) (element w8 _ (c .before .bits8-arg .given) .back)) (s .pre) (c .bits8 .ok) (q .loop .inv .1))
+    let s = q .before .before in (
+      omega arith,
+      map-one-more (complement 8) (s .args .entries .now) (s .args .out .now) (pos 0) _ (omega arith)
+          (c .bits8 .ensures ∙ ap (complement 8) (element w8 _ (c .before .bits8-arg .given) .back)) (s .pre) (c .bits8 .ok) (q .loop .inv .1),
+    )
 
 same-length : tie.Need-same-length Inv-loop μ-loop
 same-length c = search needs
 
 returns : tie.Need-returns Inv-loop μ-loop
-returns c = 
+returns c =
     let q = c .before in
     let s = q .before .before in
     finish _ _ (map-fills (complement 8) (s .args .entries .now) (s .args .out .now) 1 (s .pre)) (q .loop .inv .1) (omega arith)

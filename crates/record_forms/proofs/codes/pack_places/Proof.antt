@@ -37,18 +37,20 @@ loop-less : tie.Need-loop-less Inv-loop μ-loop
 loop-less c = search needs
 
 loop-again : tie.Need-loop-again Inv-loop μ-loop
-loop-again c = 
+loop-again c =
     let p = c .before .before in
     let q = p .before .before .before .before in
-    let s = q .before .before .before in
-    (omega arith, rw (p .put-number .ensures)
-    (two-more (s .args .out .now) (s .args .entries .now) _ (omega arith) refl (s .pre) (q .loop .inv .1)))
+    let s = q .before .before .before in (
+      omega arith,
+      rw (p .put-number .ensures)
+          (two-more (s .args .out .now) (s .args .entries .now) _ (omega arith) refl (s .pre) (q .loop .inv .1)),
+    )
 
 same-length : tie.Need-same-length Inv-loop μ-loop
 same-length c = search needs
 
 returns : tie.Need-returns Inv-loop μ-loop
-returns c = 
+returns c =
     let q = c .before in
     let s = q .before .before .before in
     finish _ _ (packed-fills 2 (s .args .out .now) (s .args .entries .now) (s .pre)) (q .loop .inv .1) (omega arith)

@@ -44,19 +44,21 @@ loop-less : tie.Need-loop-less Inv-loop μ-loop
 loop-less c = search needs
 
 loop-again : tie.Need-loop-again Inv-loop μ-loop
-loop-again c = 
+loop-again c =
     let p = c .before .before in
     let q = p .before .before .before .before .before in
-    let s = q .before .before in
-    (omega arith, rw (p .put-number .ensures)
-    (map-two-more (complement 16) (s .args .entries .now) (s .args .out .now) (pos 0) _ (omega arith)
-    (p .before .bits16 .ensures ∙ ap (complement 16) (element w16 _ (p .before .before .bits16-arg .given) .back)) (s .pre) (q .loop .inv .1)))
+    let s = q .before .before in (
+      omega arith,
+      rw (p .put-number .ensures)
+          (map-two-more (complement 16) (s .args .entries .now) (s .args .out .now) (pos 0) _ (omega arith)
+          (p .before .bits16 .ensures ∙ ap (complement 16) (element w16 _ (p .before .before .bits16-arg .given) .back)) (s .pre) (q .loop .inv .1)),
+    )
 
 same-length : tie.Need-same-length Inv-loop μ-loop
 same-length c = search needs
 
 returns : tie.Need-returns Inv-loop μ-loop
-returns c = 
+returns c =
     let q = c .before in
     let s = q .before .before in
     finish _ _ (map-fills (complement 16) (s .args .entries .now) (s .args .out .now) 2 (s .pre)) (q .loop .inv .1) (omega arith)

@@ -38,18 +38,20 @@ loop-less : tie.Need-loop-less Inv-loop μ-loop
 loop-less c = search needs
 
 loop-again : tie.Need-loop-again Inv-loop μ-loop
-loop-again c = 
+loop-again c =
     let q = c .before .before .before in
-    let s = q .before .before in
-    (omega arith, map-more (signed 8) 1 (s .args .bytes .now) (s .args .entries .now) (pos 0) _ _ (omega arith)
-    (one-at (s .args .bytes .now) (length (s .args .entries .now)) (q .loop .i) (omega arith) (s .pre))
-    (element w8 (c .signed8 .result) (c .signed8 .ok) .back ∙ c .signed8 .ensures) (q .loop .inv .1))
+    let s = q .before .before in (
+      omega arith,
+      map-more (signed 8) 1 (s .args .bytes .now) (s .args .entries .now) (pos 0) _ _ (omega arith)
+          (one-at (s .args .bytes .now) (length (s .args .entries .now)) (q .loop .i) (omega arith) (s .pre))
+          (element w8 (c .signed8 .result) (c .signed8 .ok) .back ∙ c .signed8 .ensures) (q .loop .inv .1),
+    )
 
 same-length : tie.Need-same-length Inv-loop μ-loop
 same-length c = search needs
 
 returns : tie.Need-returns Inv-loop μ-loop
-returns c = 
+returns c =
     let q = c .before in
     let s = q .before .before in
     finish _ _ (map-unpacked-fills (signed 8) 1 (s .args .bytes .now) (s .args .entries .now)) (q .loop .inv .1) (omega arith)

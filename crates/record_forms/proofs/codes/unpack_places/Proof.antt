@@ -38,17 +38,19 @@ loop-less : tie.Need-loop-less Inv-loop μ-loop
 loop-less c = search needs
 
 loop-again : tie.Need-loop-again Inv-loop μ-loop
-loop-again c = 
+loop-again c =
     let q = c .before .before in
-    let s = q .before .before .before in
-    (omega arith, more (s .args .entries .now) _ (length-unpacked 2 (length (s .args .entries .now)) (s .args .bytes .now)) (q .loop .inv .1) 0 _ (omega arith)
-    (c .number-at .ensures ∙ two-at (s .args .bytes .now) (length (s .args .entries .now)) (q .loop .i) (omega arith) (s .pre)))
+    let s = q .before .before .before in (
+      omega arith,
+      more (s .args .entries .now) _ (length-unpacked 2 (length (s .args .entries .now)) (s .args .bytes .now)) (q .loop .inv .1) 0 _ (omega arith)
+          (c .number-at .ensures ∙ two-at (s .args .bytes .now) (length (s .args .entries .now)) (q .loop .i) (omega arith) (s .pre)),
+    )
 
 same-length : tie.Need-same-length Inv-loop μ-loop
 same-length c = search needs
 
 returns : tie.Need-returns Inv-loop μ-loop
-returns c = 
+returns c =
     let q = c .before in
     let s = q .before .before .before in
     finish _ _ (length-unpacked 2 (length (s .args .entries .now)) (s .args .bytes .now)) (q .loop .inv .1) (omega arith)

@@ -44,18 +44,20 @@ loop-less : tie.Need-loop-less Inv-loop μ-loop
 loop-less c = search needs
 
 loop-again : tie.Need-loop-again Inv-loop μ-loop
-loop-again c = 
+loop-again c =
     let q = c .before .before .before in
-    let s = q .before .before in
-    (omega arith, map-more (signed 16) 2 (s .args .bytes .now) (s .args .entries .now) (pos 0) _ _ (omega arith)
-    (c .before .number-at .ensures ∙ two-at (s .args .bytes .now) (length (s .args .entries .now)) (q .loop .i) (omega arith) (s .pre))
-    (element w16 (c .signed16 .result) (c .signed16 .ok) .back ∙ c .signed16 .ensures) (q .loop .inv .1))
+    let s = q .before .before in (
+      omega arith,
+      map-more (signed 16) 2 (s .args .bytes .now) (s .args .entries .now) (pos 0) _ _ (omega arith)
+          (c .before .number-at .ensures ∙ two-at (s .args .bytes .now) (length (s .args .entries .now)) (q .loop .i) (omega arith) (s .pre))
+          (element w16 (c .signed16 .result) (c .signed16 .ok) .back ∙ c .signed16 .ensures) (q .loop .inv .1),
+    )
 
 same-length : tie.Need-same-length Inv-loop μ-loop
 same-length c = search needs
 
 returns : tie.Need-returns Inv-loop μ-loop
-returns c = 
+returns c =
     let q = c .before in
     let s = q .before .before in
     finish _ _ (map-unpacked-fills (signed 16) 2 (s .args .bytes .now) (s .args .entries .now)) (q .loop .inv .1) (omega arith)
