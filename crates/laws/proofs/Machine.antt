@@ -4,12 +4,12 @@ use mathlib.Core.Path.{_≡_, refl, sym, _∙_, ap}
 use mathlib.Core.Bool.{Bool, true, false}
 use Prim.Native.Nat.{ℕ, zero, suc, _+_, _*_, _-_, _^_, _<_, _≤_}
 use native.Mathlib.Omega.{arith}
-use lib.Dec.{T}
+use lib.Dec.{T, leb}
 use lib.IntN.{ℤ, pos, negsuc, negℤ, natAbs, _+ℤ_, _-ℤ_, _*ℤ_}
 use lib.Signed.{mag, nonNeg, ltZ, leZ}
 use mir.Syntax.{Width}
 use mir.Val.{SFits, Fits, bits, hbits, toZ, ofZ}
-use mir.Facts.{toZ-ofZ}
+use mir.Facts.{toZ-ofZ, sfits-widen}
 use mir.ValLaws.{toZ-pos, toZ-neg}
 use Rattle.laws.proofs.Bounds.{abs-add, abs-sub, abs-mul, mag-abs}
 use Rattle.laws.proofs.Linear.{above, under}
@@ -81,6 +81,14 @@ module _ {w : Width} {n : ℕ} {x : ℤ} (p : Reads w n x) (w′ : Width) where
   -- to an unsigned type: the number is not negative, and its size fits
   pub unsigned-ok : T (nonNeg x) → natAbs x < 2 ^ bits w′ → T (nonNeg (toZ w n)) × Fits w′ (natAbs (toZ w n))
   unsigned-ok t h = rw (p .back) (t, record { fits = h })
+
+-- a number that fits, to a signed type that is as wide or wider
+module _ {w w′ : Width} {x : ℤ} (wider : T (leb (hbits w) (hbits w′))) (f : SFits w x) where
+  pub wider-ok : SFits w′ (toZ w (ofZ w x))
+  wider-ok = cast-ok (given f) w′ (sfits-widen wider f)
+
+  pub wider-is : Reads w′ (ofZ w′ (toZ w (ofZ w x))) x
+  wider-is = cast-is (given f) w′ (sfits-widen wider f)
 
 pub unsigned-is : {w : Width} {n : ℕ} {x : ℤ} → Reads w n x → natAbs (toZ w n) ≡ natAbs x
 unsigned-is p = ap natAbs (p .back)

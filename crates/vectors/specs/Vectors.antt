@@ -2,12 +2,15 @@
 use mathlib.Core.Bool.{Bool}
 use mathlib.Core.List.{List, [], _∷_, _++_, map}
 use Prim.Native.Nat.{ℕ, _+_, _*_}
-use lib.Dec.{leb}
+use lib.Dec.{leb, ltb}
 use lib.IntN.{ℤ, pos, negℤ, natAbs, _+ℤ_, _*ℤ_}
 
 -- whether x lies in - bound .. bound
 abbrev pub within : ℕ → ℤ → Bool
 within bound x = leb (natAbs x) bound
+
+abbrev pub below : ℕ → ℕ → Bool
+below bound x = ltb x bound
 
 -- the squared length: the sum of the squares
 unfoldable pub squares : List ℤ → ℕ
