@@ -10,7 +10,7 @@ use lib.Dec.{eqb}
 use lib.ListN.{length, take, drop, getD}
 use lib.Seq.{drop-cons, take-add}
 use Rattle.laws.proofs.Chain.{differ, and-left, and-right}
-use Rattle.record_forms.specs.Headers.{alike, agree}
+use Rattle.record_forms.specs.Headers.{part, alike, agree}
 
 pub alike-is : (a b : List ℕ) → alike a b ≡ true → a ≡ b
 unfolding alike
@@ -20,6 +20,11 @@ alike-is (x ∷ xs) [] e = absurd (differ e)
 alike-is (x ∷ xs) (y ∷ ys) e =
     ap₂ _∷_ (eqb-true x y (and-left (eqb x y) (alike xs ys) e)) (alike-is xs ys (and-right (eqb x y) (alike xs ys) e))
 
+pub alike-same : (a : List ℕ) → alike a a ≡ true
+unfolding alike
+alike-same [] = refl
+alike-same (x ∷ xs) = rw (eq-eqb x x refl) (alike-same xs)
+
 -- what agrees up to a place, and from there up to another, agrees up to that one
 pub agree-further : (from to : ℕ) (a b : List ℕ) → from ≤ to → take from a ≡ take from b → agree from to a b ≡ true → take to a ≡ take to b
 agree-further from to a b h front field = cut a ∙ ap₂ _++_ front (alike-is _ _ field) ∙ sym (cut b)
@@ -27,11 +32,11 @@ agree-further from to a b h front field = cut a ∙ ap₂ _++_ front (alike-is _
     sum : (m n : ℕ) → m ≤ n → n ≡ m + (n - m)
     sum m n h = omega arith
 
-    cut : (l : List ℕ) → take to l ≡ take from l ++ take (to - from) (drop from l)
+    cut : (l : List ℕ) → take to l ≡ take from l ++ part from to l
     cut l = ap (λ (n : ℕ). take n l) (sum from to h) ∙ take-add from (to - from) l
 
 -- ---- in the code: one place after the other
-part-next : (i to : ℕ) (l : List ℕ) → i < to → to ≤ length l → take (to - i) (drop i l) ≡ getD l i 0 ∷ take (to - (i + 1)) (drop (i + 1) l)
+part-next : (i to : ℕ) (l : List ℕ) → i < to → to ≤ length l → part i to l ≡ getD l i 0 ∷ part (i + 1) to l
 part-next i to l h k =
     let inside : i < length l = omega arith in
     let count : to - i ≡ suc (to - (i + 1)) = omega arith in

@@ -4,3 +4,4 @@ pub mod Sections
 pub mod Packing
 pub mod Agreement
 pub mod Ways
+pub mod Stated

@@ -41,6 +41,10 @@ headerOf s =
 
 -- ---- the test
 
+-- the bytes from one place up to another
+abbrev pub part : ℕ → ℕ → List ℕ → List ℕ
+part from to bytes = take (to - from) (drop from bytes)
+
 unfoldable pub alike : List ℕ → List ℕ → Bool
 alike [] [] = true
 alike [] (y ∷ ys) = false
@@ -49,7 +53,7 @@ alike (x ∷ xs) (y ∷ ys) = eqb x y && alike xs ys
 
 -- whether two byte strings agree from one place up to another
 abbrev pub agree : ℕ → ℕ → List ℕ → List ℕ → Bool
-agree from to a b = alike (take (to - from) (drop from a)) (take (to - from) (drop from b))
+agree from to a b = alike (part from to a) (part from to b)
 
 -- the fields whose content goes by the set: the list's count and offset, the total, which is also the slice's length, and the zeros after it
 unfoldable pub setFields : Set → List ℕ → List ℕ → Header
