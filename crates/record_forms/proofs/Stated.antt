@@ -77,6 +77,10 @@ number-byte : (s : Set) → take 5 (headerOf s) ≡ letters ++ (numberOf s ∷ [
 unfolding headerOf bytesOf
 number-byte = each _ refl refl refl refl
 
+pub header-long : (s : Set) → length (headerOf s) ≡ 24
+unfolding headerOf bytesOf
+header-long s = refl
+
 whole : (s : Set) → take 24 (headerOf s) ≡ headerOf s
 unfolding headerOf bytesOf
 whole s = refl

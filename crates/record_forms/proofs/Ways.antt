@@ -12,6 +12,14 @@ use Rattle.record_forms.specs.declared.Header.the-variants.{States, Malf
 use Rattle.record_forms.specs.Headers.{opened}
 
 module _ {ℓ} {A : Type ℓ} where
+  module _ (length asked : ℕ) (x refusal next : A) where
+    pub wrong-length : (length ≡ asked → ⊥) → x ≡ refusal → x ≡ must (eqb length asked) refusal next
+    wrong-length h k = rw (ne-eqb length asked h) k
+
+    pub right-length : length ≡ asked → x ≡ next → x ≡ must (eqb length asked) refusal next
+    right-length h k = rw (eq-eqb length asked h) k
+
+  -- the length asked for was computed
   module _ (length wanted asked : ℕ) (x refusal next : A) (is : wanted ≡ asked) where
     pub other-length : (length ≡ wanted → ⊥) → x ≡ refusal → x ≡ must (eqb length asked) refusal next
     other-length h k = rw (← is, ne-eqb length wanted h) k
@@ -32,4 +40,4 @@ module _ {ℓ} {A : Type ℓ} where
     pub states : (s : Set) → h ≡ States s → x ≡ next s → x ≡ opened read refusal next
     states s e k = rw (sym is ∙ e) k
 
-pub ruleset calls = (Calls.calls, other-length, that-length, too-short, long-enough, malformed, states)
+pub ruleset calls = (Calls.calls, wrong-length, right-length, other-length, that-length, too-short, long-enough, malformed, states)

@@ -63,6 +63,18 @@ pub fn signed8(x: u8) -> i8
     }
 }
 
+// The same bytes.
+pub fn copy(bytes: &[u8], out: &mut [u8])
+    requires { ⌜ length (now out) ≡ length (now bytes) ⌝ }
+    ensures { λ _. ⌜ now (out .exit) ≡ now (bytes .entry) ⌝ }
+{
+    let mut i = 0;
+    while i < bytes.len() {
+        out[i] = bytes[i];
+        i += 1;
+    }
+}
+
 // ---- sections: two bytes an entry of z1 and of the list, one of z2 dagger
 
 pub fn pack_wide(entries: &[i16], out: &mut [u8])

@@ -18,6 +18,9 @@ pub record Signature : Type 0 where
   pub z2 : List ℤ
   pub list : List ℕ
 
+abbrev pub signature : Set → List ℤ → List ℤ → List ℕ → Signature
+signature s z1 z2 list = record { set = s; z1 = z1; z2 = z2; list = list }
+
 -- z1 has two bytes an entry and z2 dagger one, both two's complement; the list has two
 abbrev pub z1Bytes : Signature → List ℕ
 z1Bytes g = packed 2 (map (complement 16) (g .z1))
@@ -34,12 +37,10 @@ recordOf g = headerOf (g .set) ++ z1Bytes g ++ z2Bytes g ++ listBytes g
 -- the signature in a record whose header states a set
 abbrev pub signatureIn : Set → List ℕ → Signature
 signatureIn s rec =
-    record {
-      set = s;
-      z1 = map (signed 16) (unpacked 2 dimension (part z1Offset z2Offset rec));
-      z2 = map (signed 8) (unpacked 1 dimension (part z2Offset listOffset rec));
-      list = unpacked 2 (kappaOf s) (part listOffset (totalOf s) rec);
-    }
+    signature s
+    (map (signed 16) (unpacked 2 dimension (part z1Offset z2Offset rec)))
+    (map (signed 8) (unpacked 1 dimension (part z2Offset listOffset rec)))
+    (unpacked 2 (kappaOf s) (part listOffset (totalOf s) rec))
 
 -- what a signature is refused for, whichever way it came: 5, 10, 11
 unfoldable pub refusalOf : Signature → Outcome

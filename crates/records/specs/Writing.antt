@@ -10,7 +10,7 @@ use Rattle.sets.specs.Numbers.{dimension, totalOf, askedOf}
 use Rattle.answers.specs.declared.Outcome.{Outcome}
 use Rattle.answers.specs.declared.Outcome.the-variants.{Done, UnknownSet, WrongLength, OutputShort}
 use Rattle.answers.specs.Outcomes.{unless, forSet}
-use Rattle.records.specs.Signatures.{Signature, recordOf, refusalOf}
+use Rattle.records.specs.Signatures.{Signature, signature, recordOf, refusalOf}
 
 -- what the writer leaves behind: its answer and the output
 pub data Written : Type 0 where
@@ -28,4 +28,4 @@ writingFor g out =
 unfoldable pub writingOf : ℕ → List ℤ → List ℤ → List ℕ → List ℕ → Written
 writingOf set z1 z2 list out =
     forSet (askedOf set) (written UnknownSet out)
-    (λ s. writingFor (record { set = s; z1 = z1; z2 = z2; list = list }) out)
+    (λ s. writingFor (signature s z1 z2 list) out)
