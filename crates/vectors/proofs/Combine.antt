@@ -1,6 +1,6 @@
 -- A loop that rewrites v, entry by entry, by an operation with c: `v[i] = v[i] + c[i]`, and the same with -. Once for each operation whose result is no
 -- larger than its two numbers together. Assumes nothing.
-use mathlib.Core.Path.{_≡_, sym, _∙_, ap, ap₂}
+use mathlib.Core.Path.{_≡_, sym, _∙_}
 use mathlib.Core.List.{List}
 use Prim.Native.Nat.{ℕ, _+_, _^_, _<_, _≤_}
 use native.Mathlib.Omega.{arith}

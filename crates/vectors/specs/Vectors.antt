@@ -9,6 +9,7 @@ use lib.IntN.{ℤ, pos, negℤ, natAbs, _+ℤ_, _*ℤ_}
 abbrev pub within : ℕ → ℤ → Bool
 within bound x = leb (natAbs x) bound
 
+-- whether x lies in 0 .. bound - 1
 abbrev pub below : ℕ → ℕ → Bool
 below bound x = ltb x bound
 

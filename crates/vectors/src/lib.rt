@@ -1,11 +1,11 @@
 // Vectors of whole numbers, and the form of a challenge list (01, "Key, commitment, response, rebuild").
-// A vector of bytes is widened first: everything else is for i16 alone. Loops count to Set::DIMENSION and call nothing that is not inlined, so that the
-// compiler takes eight entries at a time.
+// A vector of bytes is widened first: everything else is for i16 alone. Sums and copies are loops with a fixed count and no branch, which the compiler
+// turns into instructions on several entries at a time.
 ghost use mathlib.Core.Path.{_≡_};
 ghost use mathlib.Core.Bool.{true};
 ghost use mathlib.Core.List.{map};
 ghost use Prim.Native.Nat.{ℕ, _+_, _*_, _^_, _<_};
-ghost use lib.IntN.{ℤ, pos, negℤ, natAbs, _+ℤ_, _-ℤ_, _*ℤ_};
+ghost use lib.IntN.{pos, negℤ, natAbs, _+ℤ_, _-ℤ_, _*ℤ_};
 ghost use lib.ListN.{length, getD};
 ghost use Rattle.laws.specs.Lists.{every, zipWith};
 ghost use Rattle.sets.specs.Numbers.{dimension};
@@ -15,7 +15,7 @@ use sets::Set;
 
 // ---- the form of a list
 
-// Exactly kappa places, strictly rising, each below 512.
+// Exactly kappa places, strictly rising, each below 512 (01, "Response").
 pub fn is_proper(s: Set, list: &[u16]) -> bool
     ensures { λ r. ⌜ r ≡ properList s (now (list .entry)) ⌝ }
 {
@@ -124,7 +124,7 @@ fn square(x: i16) -> u32
     product(x, x) as u32
 }
 
-// A part of the sum is at most the sum of the sizes passed, so that it fits where the whole does.
+// What is summed so far is at most the sizes so far, so that it fits wherever all sizes together do.
 pub fn inner_product(a: &[i16], b: &[i16]) -> i32
     requires { ⌜ (length (now a) ≡ dimension) × (length (now b) ≡ dimension) × (sizes (now a) (now b) < 2 ^ 31) ⌝ }
     ensures { λ r. ⌜ r ≡ inner (now (a .entry)) (now (b .entry)) ⌝ }
@@ -145,7 +145,7 @@ fn product(x: i16, y: i16) -> i32
 
 // ---- columns x^i s
 
-// The column x^i s is the part of `out` from 512 - i to 1024 - i.
+// s behind its negative: the column x^i s is the part from 512 - i to 1024 - i.
 pub fn mirror(s: &[i16], out: &mut [i16])
     requires { ⌜ (length (now s) ≡ dimension) × (length (now out) ≡ 2 * dimension) × (every (within 32767) (now s) ≡ true) ⌝ }
     ensures { λ _. ⌜ now (out .exit) ≡ mirrored (now (s .entry)) ⌝ }
@@ -154,7 +154,7 @@ pub fn mirror(s: &[i16], out: &mut [i16])
     copy(&mut out[Set::DIMENSION..], s);
 }
 
-// The least i16 has no negative.
+// The negative of the least i16 would not fit.
 fn negate(out: &mut [i16], x: &[i16])
     requires { ⌜ (length (now out) ≡ dimension) × (length (now x) ≡ dimension) × (every (within 32767) (now x) ≡ true) ⌝ }
     ensures { λ _. ⌜ now (out .exit) ≡ map negℤ (now (x .entry)) ⌝ }
@@ -164,6 +164,7 @@ fn negate(out: &mut [i16], x: &[i16])
     }
 }
 
+// v + c, in v's place.
 pub fn add_to(v: &mut [i16], c: &[i16])
     requires { ⌜ (length (now v) ≡ dimension) × (length (now c) ≡ dimension) × ((k : ℕ) → natAbs (getD (now v) k (pos 0)) + natAbs (getD (now c) k (pos 0)) < 32768) ⌝ }
     ensures { λ _. ⌜ now (v .exit) ≡ zipWith _+ℤ_ (now (v .entry)) (now (c .entry)) ⌝ }
@@ -173,6 +174,7 @@ pub fn add_to(v: &mut [i16], c: &[i16])
     }
 }
 
+// v - c, in v's place.
 pub fn subtract_from(v: &mut [i16], c: &[i16])
     requires { ⌜ (length (now v) ≡ dimension) × (length (now c) ≡ dimension) × ((k : ℕ) → natAbs (getD (now v) k (pos 0)) + natAbs (getD (now c) k (pos 0)) < 32768) ⌝ }
     ensures { λ _. ⌜ now (v .exit) ≡ zipWith _-ℤ_ (now (v .entry)) (now (c .entry)) ⌝ }

@@ -1,11 +1,11 @@
-use mathlib.Core.Path.{_≡_, sym, _∙_, ap}
-use Prim.Native.Nat.{ℕ, _+_, _*_, _-_, _^_, _≤_}
+use mathlib.Core.Path.{_≡_, _∙_, ap}
+use Prim.Native.Nat.{ℕ, _+_, _*_, _-_, _≤_}
 use native.Mathlib.Nat.{mul-le-mul}
 use native.Mathlib.Omega.{arith}
 use borrow.Author.Needs.{needs}
 use lib.Dec.{lit≤}
 use lib.IntN.{ℤ, pos, natAbs}
-use lib.ListN.{length, drop, getD}
+use lib.ListN.{drop, getD}
 use lib.Signed.{natAbs-le}
 use mir.Syntax.{w16}
 use Rattle.laws.proofs.Machine.{element}
@@ -41,11 +41,8 @@ module _ (c : tie.After-size Inv-loop μ-loop) where
   abbrev entry : ℤ
   entry = getD (here .before .args .x .now) (here .loop .i) (pos 0)
 
-  is-size : c .size .result ≡ natAbs entry
-  is-size = c .size .ensures ∙ ap natAbs (element w16 entry (c .before .size-arg .given) .back)
-
   times : here .before .args .factor * c .size .result ≡ here .before .args .factor * natAbs entry
-  times = ap (λ (n : ℕ). here .before .args .factor * n) is-size
+  times = ap (λ (n : ℕ). here .before .args .factor * n) (c .size .ensures ∙ ap natAbs (element w16 entry (c .before .size-arg .given) .back))
 
 mul-if1 : tie.Need-mul-if1 Inv-loop μ-loop
 mul-if1 c = omega (arith, times c, mul-le-mul (here c .before .pre .1) (natAbs-le (entry c) (c .before .size-arg .given)))

@@ -1,4 +1,4 @@
-use mathlib.Core.Path.{_≡_, refl, sym, _∙_, ap, ap₂}
+use mathlib.Core.Path.{_≡_, refl, _∙_, ap, ap₂}
 use Prim.Native.Nat.{ℕ, _+_, _*_, _^_, _≤_}
 use native.Mathlib.Nat.{mul-le-mul}
 use native.Mathlib.Omega.{arith}
@@ -8,7 +8,6 @@ use Rattle.sets.specs.declared.Set.{Set}
 use Rattle.sets.specs.declared.Set.the-variants.{I, II, III, IV}
 use Rattle.sets.specs.Numbers.{dOf}
 use Rattle.sets.proofs.Alike.{d-small}
-use Rattle.vectors.specs.Vectors.{squares}
 use Rattle.limits.proofs.weighted_sum.Statement.{statement}
 use Rattle.limits.proofs.weighted_sum.Tie as tie
 

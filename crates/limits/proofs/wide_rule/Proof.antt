@@ -1,16 +1,15 @@
 use mathlib.Core.Path.{_≡_, refl, sym, _∙_, ap, ap₂}
-use mathlib.Core.Bool.{true}
-use Prim.Native.Nat.{ℕ, _+_, _*_, _^_, _<_, _≤_}
+use Prim.Native.Nat.{ℕ, _+_, _*_, _^_}
 use native.Mathlib.Omega.{arith}
 use borrow.Author.Needs.{needs}
 use borrow.Author.Tests.{le-leb, lt-leb}
-use lib.Dec.{leb, lit≤}
+use lib.Dec.{lit≤}
 use lib.Pow.{pow-mono, pow-pos}
 use Rattle.laws.proofs.Chain.{passed}
 use Rattle.sets.specs.Numbers.{dimension, dOf, largestOf, boundSquaredOf}
 use Rattle.sets.proofs.Alike.{d-small, largest-small}
 use Rattle.answers.specs.declared.Outcome.{Outcome}
-use Rattle.answers.specs.declared.Outcome.the-variants.{Done, SumAbove}
+use Rattle.answers.specs.declared.Outcome.the-variants.{Done}
 use Rattle.answers.specs.Outcomes.{isDone, unless}
 use Rattle.answers.proofs.Calls.{refused, admitted}
 use Rattle.vectors.specs.Vectors.{squares}

@@ -3,7 +3,7 @@ use Prim.Native.Nat.{_≤_, _-_}
 use native.Mathlib.Omega.{arith}
 use borrow.Author.Needs.{needs}
 use borrow.Author.Tests.{lt-ltb, le-ltb}
-use lib.ListN.{length, drop, getD}
+use lib.ListN.{length, drop}
 use Rattle.laws.specs.Lists.{every}
 use Rattle.laws.proofs.Loops.{scan-stops, scan-passes, scan-ends}
 use Rattle.vectors.specs.Vectors.{below}

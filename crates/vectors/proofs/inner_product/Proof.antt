@@ -1,16 +1,16 @@
 use mathlib.Core.Path.{_≡_, refl, sym, _∙_, ap, ap₂}
-use Prim.Native.Nat.{ℕ, _+_, _-_, _^_, _<_, _≤_}
+use Prim.Native.Nat.{_+_, _-_, _≤_}
 use native.Mathlib.Omega.{arith}
 use borrow.Author.Needs.{needs}
 use lib.Dec.{lit≤}
 use lib.IntN.{ℤ, pos, natAbs, _+ℤ_, _*ℤ_}
-use lib.ListN.{length, take, getD}
+use lib.ListN.{take, getD}
 use lib.Seq.{take-all}
 use mir.Syntax.{w16, w32}
 use mir.Val.{SFits, toZ, ofZ}
 use Rattle.laws.proofs.Machine.{Reads, element, held, fits, operation-ok, operation-is}
 use Rattle.sets.specs.Numbers.{dimension}
-use Rattle.vectors.specs.Vectors.{inner, sizes}
+use Rattle.vectors.specs.Vectors.{inner}
 use Rattle.vectors.proofs.Sums.{inner-more, inner-le-sizes, sizes-take}
 use Rattle.vectors.proofs.inner_product.Statement.{statement}
 use Rattle.vectors.proofs.inner_product.Tie as tie

@@ -6,7 +6,7 @@ use lib.Dec.{eqb, lit<}
 use lib.ListN.{length}
 use Rattle.laws.proofs.Chain.{failed, passed}
 use Rattle.sets.specs.Numbers.{kappaOf}
-use Rattle.vectors.specs.Places.{rising, properList}
+use Rattle.vectors.specs.Places.{properList}
 use Rattle.vectors.proofs.is_proper.Statement.{statement}
 use Rattle.vectors.proofs.is_proper.Tie as tie
 

@@ -1,9 +1,9 @@
 use mathlib.Core.Path.{_≡_}
-use Prim.Native.Nat.{_≤_, _-_}
+use Prim.Native.Nat.{_+_, _-_, _≤_}
 use native.Mathlib.Omega.{arith}
 use borrow.Author.Needs.{needs}
 use borrow.Author.Tests.{lt-ltb, le-ltb}
-use lib.ListN.{length, drop}
+use lib.ListN.{length, getD, drop}
 use Rattle.vectors.specs.Places.{rising}
 use Rattle.vectors.proofs.Rising.{rise-stops, rise-passes, rise-ends}
 use Rattle.vectors.proofs.is_rising.Statement.{statement}
@@ -39,7 +39,8 @@ shared-slice-read-if1-2 c = omega arith
 returns : tie.Need-returns Inv-loop μ-loop
 returns c =
     let l = c .before .before .before .before in
-    rise-stops (l .before .args .list .now) (l .loop .i) (l .loop .inv .1) (omega arith) (le-ltb _ _ (c .if1 .taken))
+    let list = l .before .args .list .now in
+    rise-stops list (l .loop .i) (l .loop .inv .1) (omega arith) (le-ltb (getD list (l .loop .i) 0) (getD list (l .loop .i + 1) 0) (omega arith))
 
 add-i : tie.Need-add-i Inv-loop μ-loop
 add-i c = omega arith
@@ -50,7 +51,8 @@ loop-less c = omega arith
 loop-again : tie.Need-loop-again Inv-loop μ-loop
 loop-again c =
     let l = c .before .before .before .before in
-    (omega arith, rise-passes (l .before .args .list .now) (l .loop .i) (l .loop .inv .1) (omega arith) (lt-ltb _ _ (c .if1 .left)))
+    let list = l .before .args .list .now in
+    (omega arith, rise-passes list (l .loop .i) (l .loop .inv .1) (omega arith) (lt-ltb (getD list (l .loop .i) 0) (getD list (l .loop .i + 1) 0) (omega arith)))
 
 returns-2 : tie.Need-returns-2 Inv-loop μ-loop
 returns-2 c =

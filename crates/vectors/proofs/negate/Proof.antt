@@ -1,18 +1,16 @@
-use mathlib.Core.Path.{_≡_, refl, sym, _∙_, ap}
-use Prim.Native.Nat.{ℕ, _-_, _^_, _<_, _≤_}
+use mathlib.Core.Path.{_≡_, sym, _∙_}
+use Prim.Native.Nat.{_-_, _^_, _<_, _≤_}
 use native.Mathlib.Omega.{arith}
-use borrow.Author.Tests.{leb-true}
 use lib.Dec.{lit≤}
-use lib.IntN.{ℤ, pos, negℤ, natAbs, _-ℤ_, +ℤ-idl}
+use lib.IntN.{ℤ, pos, negℤ, natAbs, +ℤ-idl}
 use lib.ListN.{length, getD, length-map, List·getD-map}
 use mathlib.Core.List.{map}
 use mir.Syntax.{w16}
 use mir.Val.{hbits}
-use Rattle.laws.proofs.Entries.{every-at}
 use Rattle.laws.proofs.Loops.{Rewritten, start, more, finish}
 use Rattle.laws.proofs.Machine.{element, held, sub-ok, sub-is}
 use Rattle.sets.specs.Numbers.{dimension}
-use Rattle.vectors.specs.Vectors.{within}
+use Rattle.vectors.proofs.Ranges.{within-at}
 use Rattle.vectors.proofs.negate.Statement.{statement}
 use Rattle.vectors.proofs.negate.Tie as tie
 
@@ -39,9 +37,7 @@ module _ (c : tie.After-out Inv-loop μ-loop) where
   entry = getD (c .before .before .before .args .x .now) (c .before .before .loop .i) (pos 0)
 
   small : natAbs entry < 2 ^ hbits w16
-  small =
-      let l = c .before .before in
-      omega (arith, leb-true (natAbs entry) 32767 (every-at (within 32767) (l .before .args .x .now) (l .loop .i) (pos 0) (l .before .pre .2) (omega arith)))
+  small = let l = c .before .before in omega (arith, within-at 32767 (l .before .args .x .now) (l .before .pre .2) (l .loop .i))
 
 sub-out : tie.Need-sub-out Inv-loop μ-loop
 sub-out c = sub-ok (held w16 0) (element w16 (entry c) (c .out .given)) (omega (arith, small c))

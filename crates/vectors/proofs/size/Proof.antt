@@ -1,11 +1,10 @@
 use mathlib.Core.Path.{_≡_, _∙_, ap}
-use mathlib.Core.Bool.{true}
-use Prim.Native.Nat.{ℕ, _+_, _^_, _<_, _≤_}
+use Prim.Native.Nat.{ℕ, _≤_}
 use native.Mathlib.Omega.{arith}
 use lib.IntN.{ℤ, pos, negℤ, natAbs, _-ℤ_, +ℤ-idl}
-use lib.Signed.{natAbs-le, ltZ}
+use lib.Signed.{natAbs-le}
 use mir.Syntax.{w16, w32}
-use mir.Val.{hbits, toZ, ofZ}
+use mir.Val.{toZ, ofZ}
 use Rattle.laws.proofs.Bounds.{abs-neg}
 use Rattle.laws.proofs.Linear.{lt-yes, lt-no, nonneg, difference}
 use Rattle.laws.proofs.Machine.{Reads, held, wider-ok, wider-is, sub-ok, sub-is, unsigned-ok, unsigned-is, lt-is}
