@@ -16,6 +16,11 @@ module _ {ℓ} {A : Type ℓ} where
   pub pass : (r s : Bool) (x refusal next : A) → r ≡ s → not r ≡ false → x ≡ next → x ≡ must s refusal next
   pass r s x refusal next e t k = rw (sym e ∙ not-false r t) k
 
+  -- a chain that comes to an answer which is not the test's refusal passed the test, and went on to it
+  pub through : (test : Bool) (refusal next x : A) → (test ≡ false → refusal ≡ x → ⊥) → must test refusal next ≡ x → (test ≡ true) × (next ≡ x)
+  through true refusal next x other e = (refl, e)
+  through false refusal next x other e = absurd (other refl e)
+
 pub failed : {r s : Bool} → r ≡ s → not r ≡ true → s ≡ false
 failed {r} e t = sym e ∙ not-true r t
 

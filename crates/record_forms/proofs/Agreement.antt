@@ -25,15 +25,16 @@ unfolding alike
 alike-same [] = refl
 alike-same (x ∷ xs) = rw (eq-eqb x x refl) (alike-same xs)
 
--- what agrees up to a place, and from there up to another, agrees up to that one
-pub agree-further : (from to : ℕ) (a b : List ℕ) → from ≤ to → take from a ≡ take from b → agree from to a b ≡ true → take to a ≡ take to b
-agree-further from to a b h front field = cut a ∙ ap₂ _++_ front (alike-is _ _ field) ∙ sym (cut b)
+-- the bytes up to a place, and from there up to another
+pub take-further : (from to : ℕ) (l : List ℕ) → from ≤ to → take to l ≡ take from l ++ part from to l
+take-further from to l h = ap (λ (n : ℕ). take n l) (sum from to h) ∙ take-add from (to - from) l
   where
     sum : (m n : ℕ) → m ≤ n → n ≡ m + (n - m)
     sum m n h = omega arith
 
-    cut : (l : List ℕ) → take to l ≡ take from l ++ part from to l
-    cut l = ap (λ (n : ℕ). take n l) (sum from to h) ∙ take-add from (to - from) l
+-- what agrees up to a place, and from there up to another, agrees up to that one
+pub agree-further : (from to : ℕ) (a b : List ℕ) → from ≤ to → take from a ≡ take from b → agree from to a b ≡ true → take to a ≡ take to b
+agree-further from to a b h front field = take-further from to a h ∙ ap₂ _++_ front (alike-is _ _ field) ∙ sym (take-further from to b h)
 
 -- ---- in the code: one place after the other
 part-next : (i to : ℕ) (l : List ℕ) → i < to → to ≤ length l → part i to l ≡ getD l i 0 ∷ part (i + 1) to l

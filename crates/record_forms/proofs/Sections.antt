@@ -3,8 +3,9 @@ use mathlib.Core.Path.{_≡_, refl, sym, ap, ap₂, _∙_}
 use mathlib.Core.Bool.{Bool, true, false}
 use mathlib.Core.List.{List, [], _∷_, _++_, map}
 use Prim.Native.Nat.{ℕ, zero, suc, _+_, _*_, _-_, _/_, _%_, _^_, _<_, _≤_}
-use native.Mathlib.Nat.{pow-succ', not-suc-le-zero, le-of-suc-le-suc, suc-ne-zero, mul-suc, mul-zero, zero-add}
+use native.Mathlib.Nat.{pow-succ', one-le-pow, not-suc-le-zero, le-of-suc-le-suc, suc-ne-zero, mul-suc, mul-zero, zero-add}
 use native.Mathlib.Omega.{arith}
+use lib.Dec.{lit<}
 use lib.ListN.{length, take, drop, getD, length-append, length-drop, take-append-drop, List·getD-append}
 use lib.Seq.{take-at, drop-at, drop-drop, getD-append-add, getD-drop, length-take-le}
 use Rattle.record_forms.specs.Bytes.{bytesOf, numberIn, packed, unpacked}
@@ -43,6 +44,16 @@ bytes-number (b ∷ bytes) small =
 
     rest : (n : ℕ) → b < 256 → (b + 256 * n) / 256 ≡ n
     rest n h = omega arith
+
+-- the number of `width` bytes, or of fewer
+number-below : (width : ℕ) (bytes : List ℕ) → ((k : ℕ) → getD bytes k 0 < 256) → numberIn (take width bytes) < 256 ^ width
+unfolding numberIn
+number-below zero bytes small = lit< tt
+number-below (suc width) [] small = one-le-pow (suc width) 256 (lit< tt)
+number-below (suc width) (b ∷ bytes) small =
+    let rest = number-below width bytes (λ k. small (suc k)) in
+    let first = small 0 in
+    rw (pow-succ' 256 width) (omega arith)
 
 -- ---- a section
 module _ (width : ℕ) where
@@ -84,6 +95,12 @@ module _ (width : ℕ) where
     where
       step : (n : ℕ) → width + width * i ≡ width * suc i
       step n = rw (mul-suc width i) (omega arith)
+
+  pub unpacked-below : (count : ℕ) (bytes : List ℕ) → ((k : ℕ) → getD bytes k 0 < 256) → (k : ℕ) → getD (unpacked width count bytes) k 0 < 256 ^ width
+  unfolding unpacked
+  unpacked-below zero bytes small k = one-le-pow width 256 (lit< tt)
+  unpacked-below (suc count) bytes small zero = number-below width bytes small
+  unpacked-below (suc count) bytes small (suc k) = unpacked-below count (drop width bytes) (λ j. rw (getD-drop width bytes j 0) (small (width + j))) k
 
   -- back from its bytes
   pub unpacked-packed : (entries : List ℕ) → ((k : ℕ) → getD entries k 0 < 256 ^ width) → unpacked width (length entries) (packed width entries) ≡ entries

@@ -11,6 +11,7 @@ use lib.ListN.{length, take, drop, getD, length-take}
 use lib.Seq.{take-suc, take-take, getD-take}
 use Rattle.laws.specs.Refusals.{must}
 use Rattle.laws.proofs.Bounds.{cond-ind}
+use Rattle.laws.proofs.Chain.{through}
 use Rattle.sets.specs.declared.Set.{Set}
 use Rattle.sets.specs.declared.Set.the-variants.{I, II, III, IV}
 use Rattle.sets.specs.declared.Asked.{Asked}
@@ -29,13 +30,11 @@ pub record Stated (s : Set) (rec : List ℕ) : Type 0 where
   pub front : take 24 rec ≡ headerOf s
 
 -- ---- a chain that states a set passed each test
-module _ {s : Set} (place : ℕ) (next : Header) where
-  passed : (test : Bool) → must test (Malformed place) next ≡ States s → (test ≡ true) × (next ≡ States s)
-  passed true e = (refl, e)
-  passed false e = absurd (never e)
-    where
-      never : Malformed place ≡ States s → ⊥
-      never h = let z : _≡_ {A = ℕ} 0 1 = cc in omega arith
+passed : {s : Set} (place : ℕ) (next : Header) (test : Bool) → must test (Malformed place) next ≡ States s → (test ≡ true) × (next ≡ States s)
+passed {s} place next test = through test (Malformed place) next (States s) (λ t e. never e)
+  where
+    never : Malformed place ≡ States s → ⊥
+    never h = let z : _≡_ {A = ℕ} 0 1 = cc in omega arith
 
 -- the number that names a set is the set's
 named-step : (s s′ : Set) (n : ℕ) (rest : Asked) → (rest ≡ Known s → n ≡ numberOf s) → cond (eqb n (numberOf s′)) (Known s′) rest ≡ Known s → n ≡ numberOf s

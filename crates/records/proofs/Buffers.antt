@@ -4,12 +4,10 @@ use mathlib.Core.Bool.{Bool, true, false, not}
 use mathlib.Core.List.{List, _++_, map}
 use Prim.Native.Nat.{ℕ, _+_, _*_, _-_, _≤_, _<_}
 use native.Mathlib.Omega.{arith}
-use borrow.Author.Tests.{not-false, eqb-true}
-use lib.Dec.{eqb}
+use borrow.Author.Tests.{not-false}
 use lib.IntN.{ℤ}
 use lib.ListN.{length, take, drop, length-drop}
 use lib.Seq.{take-at, length-take-le}
-use Rattle.laws.proofs.Chain.{and-left}
 use Rattle.sets.specs.declared.Set.{Set}
 use Rattle.sets.specs.Numbers.{kappaOf, totalOf, listLimit}
 use Rattle.sets.proofs.Alike.{kappa-within}
@@ -18,6 +16,7 @@ use Rattle.answers.specs.declared.Outcome.the-variants.{ImproperList}
 use Rattle.answers.specs.Outcomes.{isDone}
 use Rattle.answers.proofs.Calls.{done-test}
 use Rattle.vectors.specs.Places.{properList}
+use Rattle.vectors.proofs.Rising.{proper-count}
 use Rattle.limits.specs.LengthRule.{lengthRule}
 use Rattle.record_forms.specs.declared.Header.{Header}
 use Rattle.record_forms.specs.declared.Header.the-variants.{States}
@@ -35,15 +34,11 @@ pub refusal-proper : (g : Signature) → isDone (refusalOf g) ≡ true → prope
 unfolding refusalOf
 refusal-proper g e = done-test ImproperList (lengthRule (g .set) (g .z1) (g .z2)) refl (properList (g .set) (g .list)) e
 
-pub proper-long : (s : Set) (list : List ℕ) → properList s list ≡ true → length list ≡ kappaOf s
-unfolding properList
-proper-long s list e = eqb-true _ _ (and-left (eqb (length list) (kappaOf s)) _ e)
-
 -- a list that is not refused has kappa entries
 pub proper-length : (r : Bool) (o : Outcome) (s : Set) (z1 z2 : List ℤ) (list : List ℕ) → o ≡ refusalOf (signature s z1 z2 list) → r ≡ isDone o → not r ≡ false
     → length list ≡ kappaOf s
 proper-length r o s z1 z2 list e f t =
-    proper-long s list (refusal-proper (signature s z1 z2 list) (ap isDone (sym e) ∙ sym f ∙ not-false r t))
+    proper-count s list (refusal-proper (signature s z1 z2 list) (ap isDone (sym e) ∙ sym f ∙ not-false r t))
 
 pub room : (n total : ℕ) (s : Set) → total ≡ totalOf s → total ≤ n → totalOf s ≤ n
 room n total s e h = omega arith

@@ -26,7 +26,7 @@ section-long f width entries e = length-packed width (map f entries) ∙ ap (λ 
 
 module _ (g : Signature) (so : Sized g) where
   -- what stands before each section, and the whole
-  upto-z1 : length (headerOf (g .set)) ≡ z1Offset
+  pub upto-z1 : length (headerOf (g .set)) ≡ z1Offset
   upto-z1 = header-long (g .set)
 
   pub upto-z2 : length (headerOf (g .set) ++ z1Bytes g) ≡ z2Offset
@@ -41,7 +41,7 @@ module _ (g : Signature) (so : Sized g) where
   -- the record, its pieces from the left
   pub by-pieces : recordOf g ≡ ((headerOf (g .set) ++ z1Bytes g) ++ z2Bytes g) ++ listBytes g
   unfolding recordOf
-  by-pieces = simp append-assoc
+  by-pieces = refl
 
 -- ---- p fills a buffer up to a, and y is written from a up to b
 piece : (a b : ℕ) (old p y : List ℕ) → a ≤ b → length p ≡ a → putMid a (b - a) (p ++ drop a old) y ≡ (p ++ y) ++ drop b old

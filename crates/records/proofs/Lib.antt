@@ -1,3 +1,6 @@
--- Laws of the records: what the calls ask and leave (`Buffers`), the record of a signature piece by piece (`Forms`).
+-- Laws of the records: what the calls ask and leave (`Buffers`), the record of a signature piece by piece (`Forms`), there and back (`Back`).
+-- The promises: `RoundTrip`.
 pub mod Buffers
 pub mod Forms
+pub mod Back
+pub mod RoundTrip
