@@ -110,7 +110,7 @@ module _ {s : Set} {rec : List ℕ} (so : Stated s rec) (small : (k : ℕ) → g
       let z1-back = bytes-back 16 2 refl dimension (part z1Offset z2Offset rec) (part-long z1Offset z2Offset (lit≤ tt) (omega arith)) (part-small z1Offset z2Offset) in
       let z2-back = bytes-back 8 1 refl dimension (part z2Offset listOffset rec) (part-long z2Offset listOffset (lit≤ tt) long) (part-small z2Offset listOffset) in
       let list-back =
-          packed-unpacked 2 (kappaOf s) (part listOffset (totalOf s) rec) (part-long listOffset (totalOf s) long (omega arith) ∙ omega arith) (part-small listOffset (totalOf s)) in
+      packed-unpacked 2 (kappaOf s) (part listOffset (totalOf s) rec) (part-long listOffset (totalOf s) long (omega arith) ∙ omega arith) (part-small listOffset (totalOf s)) in
       ap₂ _++_ (ap₂ _++_ (ap₂ _++_ (sym (so .front)) z1-back ∙ sym (take-further z1Offset z2Offset rec (lit≤ tt))) z2-back
       ∙ sym (take-further z2Offset listOffset rec (lit≤ tt))) list-back
       ∙ sym (take-further listOffset (totalOf s) rec long) ∙ take-all (totalOf s) rec (omega (arith, so .total))

@@ -2,7 +2,7 @@
 -- the calls' contracts cite, for all sets at once. Assumes nothing.
 use mathlib.Core.Path.{_≡_, refl, sym, ap, _∙_}
 use mathlib.Core.Bool.{Bool, true, false}
-use mathlib.Core.List.{List, _++_}
+use mathlib.Core.List.{List, _++_, map}
 use Prim.Native.Nat.{ℕ, _+_, _≤_, _<_}
 use native.Mathlib.Omega.{arith}
 use borrow.Author.Tests.{eq-eqb, eqb-true, le-leb, leb-true, ltb-true}
@@ -24,7 +24,7 @@ use Rattle.answers.specs.Outcomes.{isDone, unless, forSet}
 use Rattle.vectors.proofs.Rising.{proper-count}
 use Rattle.record_forms.specs.declared.Header.{Header}
 use Rattle.record_forms.specs.declared.Header.the-variants.{States, Malformed}
-use Rattle.record_forms.specs.Bytes.{isByte}
+use Rattle.record_forms.specs.Bytes.{isByte, unpacked, signed}
 use Rattle.record_forms.specs.Headers.{z1Offset, z2Offset, listOffset, part, headerIn, opened}
 use Rattle.record_forms.proofs.Sections.{length-unpacked}
 use Rattle.record_forms.proofs.Stated.{Stated, stated, states-back}
@@ -82,15 +82,6 @@ wrote g out out′ e =
     output : {l l′ : List ℕ} → written Done l ≡ written Done l′ → l ≡ l′
     output e = cc
 
-refused-read : {o : Outcome} {n m : ℕ} {x x′ y y′ : List ℤ} {l l′ : List ℕ} → isDone o ≡ false → found o n x y l ≡ found Done m x′ y′ l′ → ⊥
-refused-read {o} e f = let same : o ≡ Done = cc in not-done e same
-
-record Found-well (rec b3 : List ℕ) (set : ℕ) (z1 z2 : List ℤ) (list : List ℕ) : Type 0 where
-  s : Set
-  header : headerIn rec ≡ States s
-  kept : isDone (refusalOf (signatureIn s rec)) ≡ true
-  is : (set ≡ numberOf s) × (z1 ≡ signatureIn s rec .z1) × (z2 ≡ signatureIn s rec .z2) × (list ≡ signatureIn s rec .list ++ drop (kappaOf s) b3)
-
 -- ---- there
 module _ (g : Signature) (so : Sized g) (kept : isDone (refusalOf g) ≡ true) where
   reads-back : (b1 b2 : List ℤ) (b3 : List ℕ) → length b1 ≡ dimension → length b2 ≡ dimension → length b3 ≡ listLimit
@@ -128,3 +119,70 @@ written-reads set z1 z2 list out out′ done = by-set (askedOf set) refl done
     by-set : (a : Asked) → askedOf set ≡ a → forSet a (written UnknownSet out) (λ s. writingFor (signature s z1 z2 list) out) ≡ written Done out′ → ReadsBack set z1 z2 list out′
     by-set Unknown asked e = absurd (refused-write refl e)
     by-set (Known s) asked e = known s asked (wrote (signature s z1 z2 list) out out′ e)
+
+-- ---- and back
+refused-read : {o : Outcome} {n m : ℕ} {x x′ y y′ : List ℤ} {l l′ : List ℕ} → isDone o ≡ false → found o n x y l ≡ found Done m x′ y′ l′ → ⊥
+refused-read {o} e f = let same : o ≡ Done = cc in not-done e same
+
+record Found-well (rec b3 : List ℕ) (set : ℕ) (z1 z2 : List ℤ) (list : List ℕ) : Type 0 where
+  s : Set
+  header : headerIn rec ≡ States s
+  kept : isDone (refusalOf (signatureIn s rec)) ≡ true
+  is : (set ≡ numberOf s) × (z1 ≡ signatureIn s rec .z1) × (z2 ≡ signatureIn s rec .z2) × (list ≡ signatureIn s rec .list ++ drop (kappaOf s) b3)
+
+found-well : (rec b3 : List ℕ) (b1 b2 : List ℤ) (set : ℕ) (z1 z2 : List ℤ) (list : List ℕ) → readingOf rec b1 b2 b3 ≡ found Done set z1 z2 list
+    → Found-well rec b3 set z1 z2 list
+unfolding readingOf readingFor
+found-well rec b3 b1 b2 set z1 z2 list e =
+    let refusal = found WrongLength 0 b1 b2 b3 in
+    let (l1, e1) = through (eqb (length b1) dimension) refusal _ _ (λ t. refused-read refl) e in
+    let (l2, e2) = through (eqb (length b2) dimension) refusal _ _ (λ t. refused-read refl) e1 in
+    let (l3, e3) = through (eqb (length b3) listLimit) refusal _ _ (λ t. refused-read refl) e2 in
+    by-header (headerIn rec) refl e3
+  where
+    same : {n n′ : ℕ} {x x′ y y′ : List ℤ} {l l′ : List ℕ} → found Done n x y l ≡ found Done n′ x′ y′ l′ → (n′ ≡ n) × (x′ ≡ x) × (y′ ≡ y) × (l′ ≡ l)
+    same e = (cc, cc, cc, cc)
+
+    by-header : (h : Header) → headerIn rec ≡ h → opened h (λ place. found (HeaderMalformed place) 0 b1 b2 b3) (λ s. readingFor s rec b1 b2 b3) ≡ found Done set z1 z2 list
+        → Found-well rec b3 set z1 z2 list
+    by-header (Malformed place) h e = absurd (refused-read refl e)
+    by-header (States s) h e =
+        let (kept, e′) = through (isDone (refusalOf (signatureIn s rec))) (found (refusalOf (signatureIn s rec)) 0 b1 b2 b3) _ _ refused-read e in
+        record { s = s; header = h; kept = kept; is = same e′ }
+
+-- the signature in a record has the right lengths
+module _ (s : Set) (rec : List ℕ) where
+  whole-long : (f : ℕ → ℤ) (width count : ℕ) (bytes : List ℕ) → length (map f (unpacked width count bytes)) ≡ count
+  whole-long f width count bytes = length-map (unpacked width count bytes) f ∙ length-unpacked width count bytes
+
+  writes-back : headerIn rec ≡ States s → isDone (refusalOf (signatureIn s rec)) ≡ true → every isByte rec ≡ true → (out : List ℕ) → totalOf s ≤ length out
+      → writingFor (signatureIn s rec) out ≡ written Done (rec ++ drop (totalOf s) out)
+  unfolding writingFor
+  writes-back header kept bytes out room =
+      let small : (k : ℕ) → getD rec k 0 < 256 = λ k. ltb-true _ _ (every-anywhere isByte rec k 0 bytes refl) in
+      rw (
+        eq-eqb _ _ (whole-long (signed 16) 2 dimension (part z1Offset z2Offset rec)),
+        eq-eqb _ _ (whole-long (signed 8) 1 dimension (part z2Offset listOffset rec)),
+        kept,
+        le-leb _ _ room,
+      )
+      (ap (λ (l : List ℕ). written Done (l ++ drop (totalOf s) out)) (record-back (stated rec header) small))
+
+pub read-writes : (rec : List ℕ) → every isByte rec ≡ true → (b1 b2 : List ℤ) (b3 : List ℕ) (set : ℕ) (z1 z2 : List ℤ) (list : List ℕ)
+    → readingOf rec b1 b2 b3 ≡ found Done set z1 z2 list → WritesBack rec set z1 z2 list
+unfolding writingOf
+read-writes rec bytes b1 b2 b3 set z1 z2 list done =
+    let r = found-well rec b3 b1 b2 set z1 z2 list done in
+    let s = r .s in
+    let read = signatureIn s rec .list in
+    let front : take (kappaOf s) list ≡ read =
+    ap (take (kappaOf s)) (r .is .3) ∙ take-at read (drop (kappaOf s) b3) (kappaOf s) (length-unpacked 2 (kappaOf s) (part listOffset (totalOf s) rec)) in
+    record {
+      s = s;
+      named = r .is .0;
+      writes = λ out room. again s set z1 z2 (take (kappaOf s) list) out (r .is .0) (r .is .1) (r .is .2) front (writes-back s rec (r .header) (r .kept) bytes out room);
+    }
+  where
+    again : (s : Set) (set : ℕ) (z1 z2 : List ℤ) (list out : List ℕ) {x : Written} → set ≡ numberOf s → z1 ≡ signatureIn s rec .z1 → z2 ≡ signatureIn s rec .z2
+        → list ≡ signatureIn s rec .list → writingFor (signatureIn s rec) out ≡ x → writingOf set z1 z2 list out ≡ x
+    again s set z1 z2 list out e f g h w = rw (e, f, g, h, asked-back s) w
