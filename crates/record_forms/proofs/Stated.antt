@@ -21,7 +21,7 @@ use Rattle.sets.proofs.Alike.{named-back}
 use Rattle.answers.specs.Outcomes.{forSet}
 use Rattle.record_forms.specs.declared.Header.{Header}
 use Rattle.record_forms.specs.declared.Header.the-variants.{States, Malformed}
-use Rattle.record_forms.specs.Bytes.{bytesOf}
+use Rattle.byte_codes.specs.Bytes.{bytesOf}
 use Rattle.record_forms.specs.Headers.{letters, headerOf, part, alike, agree, setFields, fieldsAfter, headerIn}
 use Rattle.record_forms.proofs.Agreement.{alike-same, agree-further}
 

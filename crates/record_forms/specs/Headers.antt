@@ -10,7 +10,7 @@ use Rattle.sets.specs.Numbers.{dimension, kappaOf, totalOf, numberOf, namedOf}
 use Rattle.answers.specs.Outcomes.{forSet}
 use Rattle.record_forms.specs.declared.Header.{Header}
 use Rattle.record_forms.specs.declared.Header.the-variants.{States, Malformed}
-use Rattle.record_forms.specs.Bytes.{bytesOf}
+use Rattle.byte_codes.specs.Bytes.{bytesOf}
 
 -- BLB1
 abbrev pub letters : List ℕ

@@ -1,11 +1,14 @@
-// The form of a record: its header, and numbers as bytes (01, "The record").
-pub mod codes;
+// The form of a record: its header, and its sections as parts of it (01, "The record").
+mod sections;
 
 ghost use mathlib.Core.Path.{_≡_};
 ghost use Prim.Native.Nat.{_≤_};
 ghost use lib.ListN.{length};
 ghost use Rattle.record_forms.specs.Headers.{headerOf, agree, setFields, fieldsAfter, headerIn};
-use codes::put_number;
+use byte_codes::put_number;
+pub use sections::list_section;
+pub use sections::z1_section;
+pub use sections::z2_section;
 use sets::Asked;
 use sets::Set;
 

@@ -21,10 +21,10 @@ use Rattle.vectors.specs.Places.{properList}
 use Rattle.vectors.proofs.Rising.{proper-place}
 use Rattle.limits.specs.LengthRule.{lengthRule}
 use Rattle.limits.proofs.Rule.{first-within, second-within}
-use Rattle.record_forms.specs.Bytes.{packed, unpacked, complement, signed}
+use Rattle.byte_codes.specs.Bytes.{packed, unpacked, complement, signed}
 use Rattle.record_forms.specs.Headers.{z1Offset, z2Offset, listOffset, headerOf, part}
-use Rattle.record_forms.proofs.Sections.{unpacked-packed, packed-unpacked, take-small}
-use Rattle.record_forms.proofs.WholeNumbers.{numbers-back, bytes-back}
+use Rattle.byte_codes.proofs.Sections.{unpacked-packed, packed-unpacked, take-small}
+use Rattle.byte_codes.proofs.WholeNumbers.{numbers-back, bytes-back}
 use Rattle.record_forms.proofs.Agreement.{take-further}
 use Rattle.record_forms.proofs.Stated.{Stated}
 use Rattle.records.specs.Signatures.{Signature, signature, z1Bytes, z2Bytes, listBytes, recordOf, signatureIn, refusalOf}

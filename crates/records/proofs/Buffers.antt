@@ -20,9 +20,9 @@ use Rattle.vectors.proofs.Rising.{proper-count}
 use Rattle.limits.specs.LengthRule.{lengthRule}
 use Rattle.record_forms.specs.declared.Header.{Header}
 use Rattle.record_forms.specs.declared.Header.the-variants.{States}
-use Rattle.record_forms.specs.Bytes.{unpacked}
+use Rattle.byte_codes.specs.Bytes.{unpacked}
 use Rattle.record_forms.specs.Headers.{listOffset, part, headerIn}
-use Rattle.record_forms.proofs.Sections.{length-unpacked}
+use Rattle.byte_codes.proofs.Sections.{length-unpacked}
 use Rattle.record_forms.proofs.Stated.{Stated, stated}
 use Rattle.records.specs.Signatures.{Signature, signature, signatureIn, refusalOf}
 use Rattle.records.specs.Writing.{Written, written}

@@ -9,9 +9,9 @@ use lib.ListN.{length, take, drop, length-append, length-map}
 use lib.Seq.{take-at, drop-at}
 use Rattle.sets.specs.declared.Set.{Set}
 use Rattle.sets.specs.Numbers.{dimension, kappaOf, totalOf}
-use Rattle.record_forms.specs.Bytes.{packed, complement}
+use Rattle.byte_codes.specs.Bytes.{packed, complement}
 use Rattle.record_forms.specs.Headers.{z1Offset, z2Offset, listOffset, headerOf}
-use Rattle.record_forms.proofs.Sections.{length-packed}
+use Rattle.byte_codes.proofs.Sections.{length-packed}
 use Rattle.record_forms.proofs.Stated.{header-long}
 use Rattle.records.specs.Signatures.{Signature, signature, z1Bytes, z2Bytes, listBytes, recordOf}
 

@@ -24,14 +24,14 @@ use Rattle.answers.specs.Outcomes.{isDone, unless, forSet}
 use Rattle.vectors.proofs.Rising.{proper-count}
 use Rattle.record_forms.specs.declared.Header.{Header}
 use Rattle.record_forms.specs.declared.Header.the-variants.{States, Malformed}
-use Rattle.record_forms.specs.Bytes.{isByte, unpacked, signed}
+use Rattle.byte_codes.specs.Bytes.{isByte, unpacked, signed}
 use Rattle.record_forms.specs.Headers.{z1Offset, z2Offset, listOffset, part, headerIn, opened}
-use Rattle.record_forms.proofs.Sections.{length-unpacked}
+use Rattle.byte_codes.proofs.Sections.{length-unpacked}
 use Rattle.record_forms.proofs.Stated.{Stated, stated, states-back}
 use Rattle.records.specs.Signatures.{Signature, signature, z1Bytes, z2Bytes, listBytes, recordOf, signatureIn, refusalOf}
 use Rattle.records.specs.Writing.{Written, written, writingFor, writingOf}
 use Rattle.records.specs.ReadingOf.{Found, found, readingFor, readingOf}
-use Rattle.records.specs.Sections.{Fetched, fetched, sectionOf, z1Section, z2Section, listSection}
+use Rattle.record_forms.specs.Sections.{Fetched, fetched, sectionOf, z1Section, z2Section, listSection}
 use Rattle.records.proofs.Buffers.{refusal-proper}
 use Rattle.records.proofs.Forms.{Sized}
 use Rattle.records.proofs.Back.{z1-part, z2-part, list-part, record-stated, signature-back, record-back}

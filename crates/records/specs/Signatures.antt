@@ -9,7 +9,7 @@ use Rattle.answers.specs.declared.Outcome.{Outcome}
 use Rattle.answers.specs.declared.Outcome.the-variants.{ImproperList}
 use Rattle.vectors.specs.Places.{properList}
 use Rattle.limits.specs.LengthRule.{lengthRule}
-use Rattle.record_forms.specs.Bytes.{packed, unpacked, complement, signed}
+use Rattle.byte_codes.specs.Bytes.{packed, unpacked, complement, signed}
 use Rattle.record_forms.specs.Headers.{z1Offset, z2Offset, listOffset, headerOf, part}
 
 pub record Signature : Type 0 where

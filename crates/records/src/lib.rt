@@ -1,5 +1,4 @@
 // The plain record (01, "The record"): a writer, a reader, and three calls that fetch a record's sections.
-mod sections;
 
 ghost use mathlib.Core.Path.{_≡_};
 ghost use mathlib.Core.List.{_++_};
@@ -14,10 +13,9 @@ use record_forms::Header;
 use record_forms::LIST_OFFSET;
 use record_forms::Z1_OFFSET;
 use record_forms::Z2_OFFSET;
-use record_forms::codes;
-pub use sections::list_section;
-pub use sections::z1_section;
-pub use sections::z2_section;
+pub use record_forms::list_section;
+pub use record_forms::z1_section;
+pub use record_forms::z2_section;
 use sets::Asked;
 use sets::Set;
 
@@ -76,10 +74,10 @@ fn pack(s: Set, z1: &[i16], z2: &[i8], list: &[u16], out: &mut [u8])
     ensures { λ _. ⌜ now (out .exit) ≡ recordOf (signature s (now (z1 .entry)) (now (z2 .entry)) (now (list .entry))) ++ drop (totalOf s) (now (out .entry)) ⌝ }
 {
     let total = s.total();
-    codes::copy(&record_forms::header_of(s), &mut out[0..Z1_OFFSET]);
-    codes::pack_wide(z1, &mut out[Z1_OFFSET..Z2_OFFSET]);
-    codes::pack_narrow(z2, &mut out[Z2_OFFSET..LIST_OFFSET]);
-    codes::pack_places(list, &mut out[LIST_OFFSET..total]);
+    byte_codes::copy(&record_forms::header_of(s), &mut out[0..Z1_OFFSET]);
+    byte_codes::pack_wide(z1, &mut out[Z1_OFFSET..Z2_OFFSET]);
+    byte_codes::pack_narrow(z2, &mut out[Z2_OFFSET..LIST_OFFSET]);
+    byte_codes::pack_places(list, &mut out[LIST_OFFSET..total]);
 }
 
 // ---- the reader
@@ -144,7 +142,7 @@ fn unpack(s: Set, rec: &[u8], z1: &mut [i16], z2: &mut [i8], list: &mut [u16])
 {
     let kappa = s.kappa();
     let total = s.total();
-    codes::unpack_wide(&rec[Z1_OFFSET..Z2_OFFSET], z1);
-    codes::unpack_narrow(&rec[Z2_OFFSET..LIST_OFFSET], z2);
-    codes::unpack_places(&rec[LIST_OFFSET..total], &mut list[..kappa]);
+    byte_codes::unpack_wide(&rec[Z1_OFFSET..Z2_OFFSET], z1);
+    byte_codes::unpack_narrow(&rec[Z2_OFFSET..LIST_OFFSET], z2);
+    byte_codes::unpack_places(&rec[LIST_OFFSET..total], &mut list[..kappa]);
 }

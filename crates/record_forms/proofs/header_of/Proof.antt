@@ -10,7 +10,7 @@ use Rattle.sets.specs.declared.Set.{Set}
 use Rattle.sets.specs.declared.Set.the-variants.{I, II, III, IV}
 use Rattle.sets.specs.Numbers.{kappaOf, totalOf, numberOf}
 use Rattle.sets.proofs.Alike.{kappa-within, total-small}
-use Rattle.record_forms.specs.Bytes.{bytesOf}
+use Rattle.byte_codes.specs.Bytes.{bytesOf}
 use Rattle.record_forms.specs.Headers.{headerOf}
 use borrow.Author.Needs.{needs}
 use Rattle.record_forms.proofs.header_of.Statement.{statement}

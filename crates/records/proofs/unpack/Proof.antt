@@ -1,5 +1,5 @@
 use lib.ListN.{length}
-use Rattle.record_forms.specs.Bytes.{signed}
+use Rattle.byte_codes.specs.Bytes.{signed}
 use Rattle.records.proofs.Buffers.{kappa-room, front-long, places-long, places-read, entries-read}
 use borrow.Author.Needs.{needs}
 use Rattle.records.proofs.unpack.Statement.{statement}
