@@ -112,12 +112,12 @@ pub fn header_of(s: Set) -> [u8; 24]
     header[2] = LETTERS[2];
     header[3] = LETTERS[3];
     header[4] = s.number() as u8;
-    put_number(&mut header, 6, 512);
-    put_number(&mut header, 8, 24);
-    put_number(&mut header, 10, 512);
-    put_number(&mut header, 12, 1048);
+    put_number(&mut header, 6, Set::DIMENSION as u16);
+    put_number(&mut header, 8, Z1_OFFSET as u16);
+    put_number(&mut header, 10, Set::DIMENSION as u16);
+    put_number(&mut header, 12, Z2_OFFSET as u16);
     put_number(&mut header, 14, s.kappa() as u16);
-    put_number(&mut header, 16, 1560);
+    put_number(&mut header, 16, LIST_OFFSET as u16);
     put_number(&mut header, 18, s.total() as u16);
     header
 }

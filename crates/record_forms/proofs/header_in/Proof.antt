@@ -19,7 +19,7 @@ cast-t7 c = search needs
 
 returns : tie.Need-returns
 unfolding headerIn
-returns c = search (calls, fields-at)
+returns c = search calls
 
 slice-aggregate-agrees : tie.Need-slice-aggregate-agrees
 slice-aggregate-agrees c = search needs
@@ -29,7 +29,7 @@ agrees-requires c κs = search needs
 
 returns-2 : tie.Need-returns-2
 unfolding headerIn
-returns-2 c = search (calls, fields-at)
+returns-2 c = search calls
 
 shared-slice-read-named : tie.Need-shared-slice-read-named
 shared-slice-read-named c = search needs
@@ -57,7 +57,7 @@ fields-after-requires c κs = search needs
 
 returns-3 : tie.Need-returns-3
 unfolding headerIn
-returns-3 c = search (calls, fields-at)
+returns-3 c = search calls
 
 returns-4 : tie.Need-returns-4
 unfolding headerIn

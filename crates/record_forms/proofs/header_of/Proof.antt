@@ -87,11 +87,17 @@ array-write-header-5 c = search needs
 slice-aggregate-put-number : tie.Need-slice-aggregate-put-number
 slice-aggregate-put-number c = search needs
 
+cast-put-number : tie.Need-cast-put-number
+cast-put-number c = search needs
+
 put-number-requires : tie.Need-put-number-requires
 put-number-requires c κs = search needs
 
 slice-aggregate-put-number-2 : tie.Need-slice-aggregate-put-number-2
 slice-aggregate-put-number-2 c = search needs
+
+cast-put-number-2 : tie.Need-cast-put-number-2
+cast-put-number-2 c = search needs
 
 put-number-requires-2 : tie.Need-put-number-requires-2
 put-number-requires-2 c κs = search needs
@@ -99,11 +105,17 @@ put-number-requires-2 c κs = search needs
 slice-aggregate-put-number-3 : tie.Need-slice-aggregate-put-number-3
 slice-aggregate-put-number-3 c = search needs
 
+cast-put-number-3 : tie.Need-cast-put-number-3
+cast-put-number-3 c = search needs
+
 put-number-requires-3 : tie.Need-put-number-requires-3
 put-number-requires-3 c κs = search needs
 
 slice-aggregate-put-number-4 : tie.Need-slice-aggregate-put-number-4
 slice-aggregate-put-number-4 c = search needs
+
+cast-put-number-4 : tie.Need-cast-put-number-4
+cast-put-number-4 c = search needs
 
 put-number-requires-4 : tie.Need-put-number-requires-4
 put-number-requires-4 c κs = search needs
@@ -114,14 +126,17 @@ slice-aggregate-put-number-5 c = search needs
 kappa-requires : tie.Need-kappa-requires
 kappa-requires c κs = search needs
 
-cast-put-number : tie.Need-cast-put-number
-cast-put-number c = search (needs, kappa-fits)
+cast-put-number-5 : tie.Need-cast-put-number-5
+cast-put-number-5 c = search (needs, kappa-fits)
 
 put-number-requires-5 : tie.Need-put-number-requires-5
 put-number-requires-5 c κs = search needs
 
 slice-aggregate-put-number-6 : tie.Need-slice-aggregate-put-number-6
 slice-aggregate-put-number-6 c = search needs
+
+cast-put-number-6 : tie.Need-cast-put-number-6
+cast-put-number-6 c = search needs
 
 put-number-requires-6 : tie.Need-put-number-requires-6
 put-number-requires-6 c κs = search needs
@@ -132,8 +147,8 @@ slice-aggregate-put-number-7 c = search needs
 total-requires : tie.Need-total-requires
 total-requires c κs = search needs
 
-cast-put-number-2 : tie.Need-cast-put-number-2
-cast-put-number-2 c = search (needs, total-fits)
+cast-put-number-7 : tie.Need-cast-put-number-7
+cast-put-number-7 c = search (needs, total-fits)
 
 put-number-requires-7 : tie.Need-put-number-requires-7
 put-number-requires-7 c κs = search needs
@@ -172,21 +187,26 @@ header-of-spec =
     cast-header
     array-write-header-5
     slice-aggregate-put-number
+    cast-put-number
     put-number-requires
     slice-aggregate-put-number-2
+    cast-put-number-2
     put-number-requires-2
     slice-aggregate-put-number-3
+    cast-put-number-3
     put-number-requires-3
     slice-aggregate-put-number-4
+    cast-put-number-4
     put-number-requires-4
     slice-aggregate-put-number-5
     kappa-requires
-    cast-put-number
+    cast-put-number-5
     put-number-requires-5
     slice-aggregate-put-number-6
+    cast-put-number-6
     put-number-requires-6
     slice-aggregate-put-number-7
     total-requires
-    cast-put-number-2
+    cast-put-number-7
     put-number-requires-7
     returns)

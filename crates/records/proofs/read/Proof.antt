@@ -56,7 +56,7 @@ same-length-3 c = search needs
 
 returns-5 : tie.Need-returns-5
 unfolding readingOf
-returns-5 c = search (calls, refused-at) depth 9
+returns-5 c = search calls depth 9
 
 pub read-spec : {M : Type 1} → statement M
 read-spec =

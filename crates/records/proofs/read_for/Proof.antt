@@ -35,7 +35,7 @@ same-length-3 c = search needs
 
 returns-2 : tie.Need-returns-2
 unfolding readingFor
-returns-2 c = search (calls, refused-at) depth 9
+returns-2 c = search calls depth 9
 
 pub read-for-spec : {M : Type 1} → statement M
 read-for-spec =
