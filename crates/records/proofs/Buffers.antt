@@ -25,8 +25,8 @@ use Rattle.record_forms.specs.Headers.{listOffset, part, headerIn}
 use Rattle.byte_codes.proofs.Sections.{length-unpacked}
 use Rattle.record_forms.proofs.Stated.{Stated, stated}
 use Rattle.records.specs.Signatures.{Signature, signature, signatureIn, refusalOf}
-use Rattle.records.specs.Writing.{Written, written}
-use Rattle.records.specs.ReadingOf.{Found, found}
+use Rattle.records.specs.Writer.{Written, written}
+use Rattle.records.specs.Reader.{Found, found}
 
 -- ---- lengths
 

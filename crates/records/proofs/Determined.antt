@@ -6,8 +6,8 @@ use contract.Lifetimes.{Lfts}
 use denote.Ref.{now}
 use lib.IntN.{ℤ}
 use Rattle.answers.specs.declared.Outcome.{Outcome}
-use Rattle.records.specs.Writing.{Written, written}
-use Rattle.records.specs.ReadingOf.{Found, found}
+use Rattle.records.specs.Writer.{Written, written}
+use Rattle.records.specs.Reader.{Found, found}
 use Rattle.records.proofs.write.Reads as write
 use Rattle.records.proofs.read.Reads as read
 

@@ -29,8 +29,8 @@ use Rattle.record_forms.specs.Headers.{z1Offset, z2Offset, listOffset, part, he
 use Rattle.byte_codes.proofs.Sections.{length-unpacked}
 use Rattle.record_forms.proofs.Stated.{Stated, stated, states-back}
 use Rattle.records.specs.Signatures.{Signature, signature, z1Bytes, z2Bytes, listBytes, recordOf, signatureIn, refusalOf}
-use Rattle.records.specs.Writing.{Written, written, writingFor, writingOf}
-use Rattle.records.specs.ReadingOf.{Found, found, readingFor, readingOf}
+use Rattle.records.specs.Writer.{Written, written, writingFor, writingOf}
+use Rattle.records.specs.Reader.{Found, found, readingFor, readingOf}
 use Rattle.record_forms.specs.Sections.{Fetched, fetched, sectionOf, z1Section, z2Section, listSection}
 use Rattle.records.proofs.Buffers.{refusal-proper}
 use Rattle.records.proofs.Forms.{Sized}

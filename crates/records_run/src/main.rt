@@ -83,8 +83,6 @@ fn second_vector() -> [i8; 512]
 {
     let mut z2 = [0i8; 512];
     z2[0] = 1;
-    z2[5] = -1;
-    z2[510] = 1;
     z2[511] = -1;
     z2
 }
@@ -293,9 +291,7 @@ fn reading(rec: &[u8], lent: usize, n1: usize, n2: usize, n3: usize) {
     print(b"read ");
     number(lent as u64);
     read_to(rec, lent, &mut z1, n1, &mut z2, n2, &mut list, n3);
-    number(sum_wide(&z1));
-    number(sum_narrow(&z2));
-    number(sum_places(&list));
+    buffer_sums(&z1, &z2, &list);
     print(b"\n");
 }
 
@@ -488,29 +484,21 @@ fn sum(bytes: &[u8]) -> u64 {
     s
 }
 
-fn sum_wide(x: &[i16]) -> u64 {
-    let mut bytes = [0u8; 1200];
-    if x.len() != 600 {
-        return 0;
+// Of the reader's three buffers.
+fn buffer_sums(z1: &[i16], z2: &[i8], list: &[u16]) {
+    let mut first = [0u8; 1200];
+    let mut second = [0u8; 600];
+    let mut third = [0u8; 100];
+    if z1.len() == 600 {
+        if z2.len() == 600 {
+            if list.len() == 50 {
+                byte_codes::pack_wide(z1, &mut first);
+                byte_codes::pack_narrow(z2, &mut second);
+                byte_codes::pack_places(list, &mut third);
+                number(sum(&first));
+                number(sum(&second));
+                number(sum(&third));
+            }
+        }
     }
-    byte_codes::pack_wide(x, &mut bytes);
-    sum(&bytes)
-}
-
-fn sum_narrow(x: &[i8]) -> u64 {
-    let mut bytes = [0u8; 600];
-    if x.len() != 600 {
-        return 0;
-    }
-    byte_codes::pack_narrow(x, &mut bytes);
-    sum(&bytes)
-}
-
-fn sum_places(x: &[u16]) -> u64 {
-    let mut bytes = [0u8; 100];
-    if x.len() != 50 {
-        return 0;
-    }
-    byte_codes::pack_places(x, &mut bytes);
-    sum(&bytes)
 }

@@ -1,5 +1,5 @@
 use Rattle.record_forms.proofs.Ways.{calls}
-use Rattle.records.specs.ReadingOf.{readingOf}
+use Rattle.records.specs.Reader.{readingOf}
 use Rattle.records.proofs.Buffers.{stated-total, refused-at}
 use borrow.Author.Needs.{needs}
 use Rattle.records.proofs.read.Statement.{statement}

@@ -1,5 +1,5 @@
 use Rattle.record_forms.proofs.Ways.{calls}
-use Rattle.records.specs.ReadingOf.{readingFor}
+use Rattle.records.specs.Reader.{readingFor}
 use Rattle.records.proofs.Buffers.{refused-at}
 use borrow.Author.Needs.{needs}
 use Rattle.records.proofs.read_for.Statement.{statement}

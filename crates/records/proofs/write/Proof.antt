@@ -1,5 +1,5 @@
 use Rattle.record_forms.proofs.Ways.{calls}
-use Rattle.records.specs.Writing.{writingOf}
+use Rattle.records.specs.Writer.{writingOf}
 use borrow.Author.Needs.{needs}
 use Rattle.records.proofs.write.Statement.{statement}
 use Rattle.records.proofs.write.Tie as tie

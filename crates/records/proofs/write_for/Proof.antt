@@ -1,6 +1,6 @@
 use Rattle.answers.proofs.Calls.{admitted}
 use Rattle.record_forms.proofs.Ways.{calls, right-length, long-enough}
-use Rattle.records.specs.Writing.{writingFor}
+use Rattle.records.specs.Writer.{writingFor}
 use Rattle.records.proofs.Buffers.{proper-length, room, written-at}
 use borrow.Author.Needs.{needs}
 use Rattle.records.proofs.write_for.Statement.{statement}
