@@ -6,3 +6,5 @@ pub mod Sums
 pub mod Daggers
 pub mod Signatures
 pub mod Agreement
+pub mod Refusals
+pub mod Determined

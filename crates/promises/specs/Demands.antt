@@ -1,4 +1,5 @@
--- Demand 3, over the definitions that the contracts of the key test, the commitment, the response and the rebuild cite. Each statement is proved in proofs/ under its own name.
+-- Demands 1 and 3, over the definitions that the contracts of the key test, the commitment, the response and the rebuild cite. Each statement is proved in
+-- proofs/ under its own name: `commitment-keeps : CommitmentKeeps`, and so on.
 use mathlib.Core.Path.{_≡_}
 use mathlib.Core.Bool.{Bool, true}
 use mathlib.Core.List.{List}
@@ -8,14 +9,52 @@ use lib.ListN.{length}
 use Rattle.sets.specs.declared.Set.{Set}
 use Rattle.sets.specs.declared.Asked.the-variants.{Known}
 use Rattle.sets.specs.Numbers.{dimension, places, kappaOf, askedOf}
-use Rattle.answers.specs.declared.Outcome.the-variants.{Done}
-use Rattle.answers.specs.Outcomes.{filled}
+use Rattle.answers.specs.declared.Outcome.{Outcome}
+use Rattle.answers.specs.declared.Outcome.the-variants.{Done, WordMissing}
+use Rattle.answers.specs.Outcomes.{numberOf, filled}
 use Rattle.vectors.specs.Places.{properList}
 use Rattle.keys.specs.Key.{second, keyLength, keyTest}
 use Rattle.commitment.specs.Commitment.{areMasks, commitment}
 use Rattle.choices.specs.Choices.{pair, squaresPair, choices}
 use Rattle.signing.specs.Response.{responded, masked, drawn, response}
 use Rattle.checking.specs.Checking.{rebuild}
+
+-- ---- demand 1: each refusal "leaves the output buffers with the contents they came with"
+
+-- the commitment's vector, after any number other than 0
+abbrev pub CommitmentKeeps : Type 0
+CommitmentKeeps =
+    (set : ℕ) (a : List ℕ) (y1 y2 : List ℤ) (out : List ℕ) (o : Outcome) (after : List ℕ)
+    → commitment set a y1 y2 out ≡ filled o after
+    → (o ≡ Done → ⊥)
+    → after ≡ out
+
+-- the rebuild's vector
+abbrev pub RebuildKeeps : Type 0
+RebuildKeeps =
+    (set : ℕ) (a : List ℕ) (z1 z2 : List ℤ) (l out : List ℕ) (o : Outcome) (after : List ℕ)
+    → rebuild set a z1 z2 l out ≡ filled o after
+    → (o ≡ Done → ⊥)
+    → after ≡ out
+
+-- both vectors of the response
+abbrev pub ResponseKeeps : Type 0
+ResponseKeeps =
+    (set : ℕ) (f g : List ℤ) (a : List ℕ) (y1 y2 : List ℤ) (l : List ℕ) (bit : Bool) (thresholds words : List ℕ) (out1 out2 : List ℤ)
+    (o : Outcome) (count : ℕ) (after1 after2 : List ℤ)
+    → response set f g a y1 y2 l bit thresholds words out1 out2 ≡ responded o count after1 after2
+    → (o ≡ Done → ⊥)
+    → (after1 ≡ out1) × (after2 ≡ out2)
+
+-- "The word count is 0 for refusals before the draw; with 9 it is the number of words lent" (01). The refusals before the draw are numbers 1 to 7
+abbrev pub ResponseCounts : Type 0
+ResponseCounts =
+    (set : ℕ) (f g : List ℤ) (a : List ℕ) (y1 y2 : List ℤ) (l : List ℕ) (bit : Bool) (thresholds words : List ℕ) (out1 out2 : List ℤ)
+    (o : Outcome) (count : ℕ) (after1 after2 : List ℤ)
+    → response set f g a y1 y2 l bit thresholds words out1 out2 ≡ responded o count after1 after2
+    → (1 ≤ numberOf o → numberOf o ≤ 7 → count ≡ 0) × (o ≡ WordMissing → count ≡ length words)
+
+-- ---- demand 3
 
 -- "Take any key that passes the key test, .. any proper challenge list, .. Then the key's challenge response is never longer, squared, than the challenge
 -- size times the key's squared length."
