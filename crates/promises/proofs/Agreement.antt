@@ -11,6 +11,7 @@ use lib.Seq.{ext-getD}
 use Rattle.laws.specs.Integers.{residue}
 use Rattle.laws.specs.Lists.{every, zipWith}
 use Rattle.laws.proofs.Congruence.{Cong}
+use Rattle.laws.proofs.Loops.{is-same}
 use Rattle.laws.proofs.Entries.{length-zipWith, getD-zipWith, getD-map}
 use Rattle.sets.specs.declared.Set.{Set}
 use Rattle.sets.specs.declared.Asked.the-variants.{Known}
@@ -32,9 +33,9 @@ use Rattle.choices.proofs.Pairs.{Sized}
 use Rattle.choices.proofs.Parity.{choices-odd, choices-even}
 use Rattle.choices.proofs.Product.{choices-carries}
 use Rattle.signing.specs.Response.{masked, daggers, response, responseFor}
-use Rattle.checking.specs.Checking.{marks, rebuilt, rebuild}
+use Rattle.checking.specs.Checking.{marks, rebuilt, rebuild, comparison}
 use Rattle.checking.proofs.Marks.{length-marks, getD-marks}
-use Rattle.promises.specs.Demands.{ResponseLength, GivenOutIsAccepted, ReachesTheDraw}
+use Rattle.promises.specs.Demands.{ResponseLength, GivenOutIsAccepted, ReachesTheDraw, Demand3}
 use Rattle.promises.proofs.Keys.{tested, tested-for, key-carries, key-sized, second-parity}
 use Rattle.promises.proofs.Sums.{sums-at}
 use Rattle.promises.proofs.Daggers.{restored-dagger}
@@ -189,3 +190,18 @@ reaches-the-draw set s f g a y1 y2 l bit thresholds words out1 out2 known passes
       proper,
       key .proper,
     )
+
+-- ---- both sentences
+-- a proper list and the same list
+same-list : (set : ℕ) (s : Set) (l : List ℕ) → askedOf set ≡ Known s → properList s l ≡ true → comparison set l l ≡ Done
+unfolding comparison
+same-list set s l known proper = rw (known, proper, is-same l)
+
+pub demand-3 : Demand3
+demand-3 set s f g a y1 y2 l bit thresholds words out1 out2 before old known passes masks proper ly1 ly2 lt lo1 lo2 lb lo = (
+  response-length set s f g a l known passes proper,
+  λ count z1 z2 done. (
+    same-list set s l known proper,
+    given-out-is-accepted set f g a y1 y2 l bit thresholds words out1 out2 count z1 z2 done before old lb lo,
+  ),
+)

@@ -24,7 +24,7 @@ use Rattle.keys.proofs.Ranges.{sized-three}
 use Rattle.keys.proofs.Second.{double, length-second}
 use Rattle.choices.specs.Choices.{pair}
 use Rattle.choices.proofs.Pairs.{Sized}
-use Rattle.promises.proofs.Passed.{itself, must-passed}
+use Rattle.promises.proofs.Passed.{itself, must-passed, set-known}
 
 -- ---- the tests of a key
 module _ (s : Set) (a : List ℕ) (s1 s2 : List ℤ) (h : properKey s a s1 s2 ≡ Done) where
@@ -67,6 +67,12 @@ tested s f g a h =
       ranges = next .0;
       proper = sym (next .2) ∙ sym (first .2) ∙ h;
     }
+
+pub tested-some : (set : ℕ) (f g : List ℤ) (a : List ℕ) → keyTest set f g a ≡ Done → (s : Set) × Tested s f g a
+unfolding keyTest
+tested-some set f g a h =
+    let known = set-known itself (askedOf set) UnknownSet (λ s. keyTestOf s f g a) refl (ap isDone h) in
+    (known .0, tested (known .0) f g a (sym (known .3) ∙ h))
 
 -- ---- s1 and s2
 module _ (f g : List ℤ) (lf : length f ≡ dimension) (lg : length g ≡ dimension) where

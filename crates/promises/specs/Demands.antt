@@ -17,7 +17,7 @@ use Rattle.keys.specs.Key.{second, keyLength, keyTest}
 use Rattle.commitment.specs.Commitment.{areMasks, commitment}
 use Rattle.choices.specs.Choices.{pair, squaresPair, choices}
 use Rattle.signing.specs.Response.{responded, masked, drawn, response}
-use Rattle.checking.specs.Checking.{rebuild}
+use Rattle.checking.specs.Checking.{rebuild, comparison}
 
 -- ---- demand 1: each refusal "leaves the output buffers with the contents they came with"
 
@@ -77,7 +77,7 @@ GivenOutIsAccepted =
     → (before old : List ℕ) → length before ≡ dimension → length old ≡ dimension
     → (rounded : List ℕ) × (commitment set a y1 y2 before ≡ filled Done rounded) × (rebuild set a z1 z2 l old ≡ filled Done rounded)
 
--- The same words' premises are no more than they say: with a key that passes the key test, masks within their limit, a proper list, and buffers and
+-- Those premises are enough to come to the draw: with a key that passes the key test, masks within their limit, a proper list, and buffers and
 -- thresholds at their stated lengths, the response refuses nothing before the draw, whatever the sign bit, the thresholds and the words are.
 abbrev pub ReachesTheDraw : Type 0
 ReachesTheDraw =
@@ -89,3 +89,21 @@ ReachesTheDraw =
     → length thresholds ≡ places → length out1 ≡ dimension → length out2 ≡ dimension
     → response set f g a y1 y2 l bit thresholds words out1 out2
     ≡ drawn s a (pair y1 y2) (masked bit (pair y1 y2) (choices (pair f (second g)) l)) (choices (pair f (second g)) l) thresholds words out1 out2
+
+-- Demand 3 as it stands, with "every buffer, the checker's included, at its stated length" (01): both sentences under all the premises it names; the checker
+-- compares the list that came with the signature with the same list.
+abbrev pub Demand3 : Type 0
+Demand3 =
+    (set : ℕ) (s : Set) (f g : List ℤ) (a : List ℕ) (y1 y2 : List ℤ) (l : List ℕ) (bit : Bool) (thresholds words : List ℕ) (out1 out2 : List ℤ)
+    (before old : List ℕ)
+    → askedOf set ≡ Known s
+    → keyTest set f g a ≡ Done
+    → areMasks y1 y2 ≡ true
+    → properList s l ≡ true
+    → length y1 ≡ dimension → length y2 ≡ dimension → length thresholds ≡ places → length out1 ≡ dimension → length out2 ≡ dimension
+    → length before ≡ dimension → length old ≡ dimension
+    → (squaresPair (choices (pair f (second g)) l) ≤ kappaOf s * keyLength f (second g))
+    × ((count : ℕ) (z1 z2 : List ℤ)
+    → response set f g a y1 y2 l bit thresholds words out1 out2 ≡ responded Done count z1 z2
+    → (comparison set l l ≡ Done)
+    × ((rounded : List ℕ) × (commitment set a y1 y2 before ≡ filled Done rounded) × (rebuild set a z1 z2 l old ≡ filled Done rounded)))
