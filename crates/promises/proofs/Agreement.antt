@@ -32,11 +32,11 @@ use Rattle.choices.proofs.Bound.{choices-sized, choices-bound}
 use Rattle.choices.proofs.Pairs.{Sized}
 use Rattle.choices.proofs.Parity.{choices-odd, choices-even}
 use Rattle.choices.proofs.Product.{choices-carries}
-use Rattle.signing.specs.Response.{masked, daggers, response, responseFor}
+use Rattle.signing.specs.Response.{masked, daggers, signedWith, tested, responseFor, response}
 use Rattle.checking.specs.Checking.{marks, rebuilt, rebuild, comparison}
 use Rattle.checking.proofs.Marks.{length-marks, getD-marks}
 use Rattle.promises.specs.Demands.{ResponseLength, GivenOutIsAccepted, ReachesTheDraw, Demand3}
-use Rattle.promises.proofs.Keys.{tested, tested-for, key-carries, key-sized, second-parity}
+use Rattle.promises.proofs.Keys.{key-tested, key-tested-for, key-carries, key-sized, second-parity}
 use Rattle.promises.proofs.Sums.{sums-at}
 use Rattle.promises.proofs.Daggers.{restored-dagger}
 use Rattle.promises.proofs.Signatures.{Admitted, given-out}
@@ -44,7 +44,7 @@ use Rattle.promises.proofs.Signatures.{Admitted, given-out}
 -- ---- the first sentence
 pub response-length : ResponseLength
 response-length set s f g a l known passes proper =
-    let key = tested s f g a (tested-for set s f g a known passes) in
+    let key = key-tested s f g a (key-tested-for set s f g a known passes) in
     rw (← proper-count s l proper) (choices-bound (pair f (second g)) (key-sized f g (key .long-f) (key .long-g)) l)
 
 -- ---- the vectors agree
@@ -159,8 +159,8 @@ given-out-is-accepted set f g a y1 y2 l bit thresholds words out1 out2 count z1 
     let given = given-out f g a y1 y2 l bit thresholds words out1 out2 count z1 z2 set done in
     let s = given .0 in
     let known = given .1 in
-    let signature = given .2 in
-    let passed = signature .before in
+    let passed = given .2 in
+    let signature = given .3 in
     let residues = a-residues f g a (passed .key .ranges) in
     let lz1 = ap length (signature .first) ∙ z-first s f g a y1 y2 l bit passed in
     let lz2 = ap length (signature .dagger) ∙ daggers-512 s f g a y1 y2 l bit passed in (
@@ -172,9 +172,9 @@ given-out-is-accepted set f g a y1 y2 l bit thresholds words out1 out2 count z1 
 
 -- ---- the premises of both
 pub reaches-the-draw : ReachesTheDraw
-unfolding response responseFor
+unfolding response responseFor tested signedWith
 reaches-the-draw set s f g a y1 y2 l bit thresholds words out1 out2 known passes ly1 ly2 masks proper lt lo1 lo2 =
-    let key = tested s f g a (tested-for set s f g a known passes) in
+    let key = key-tested s f g a (key-tested-for set s f g a known passes) in
     rw (
       known,
       sized-yes f (key .long-f),

@@ -51,12 +51,12 @@ pub record Tested (s : Set) (f g : List ℤ) (a : List ℕ) : Type 0 where
   pub proper : properKey s a f (second g) ≡ Done
 
 -- a key that passes for a set number passes for the set asked for
-pub tested-for : (set : ℕ) (s : Set) (f g : List ℤ) (a : List ℕ) → askedOf set ≡ Known s → keyTest set f g a ≡ Done → keyTestOf s f g a ≡ Done
+pub key-tested-for : (set : ℕ) (s : Set) (f g : List ℤ) (a : List ℕ) → askedOf set ≡ Known s → keyTest set f g a ≡ Done → keyTestOf s f g a ≡ Done
 unfolding keyTest
-tested-for set s f g a known h = ap (λ asked. forSet asked UnknownSet (λ m. keyTestOf m f g a)) (sym known) ∙ h
+key-tested-for set s f g a known h = ap (λ asked. forSet asked UnknownSet (λ m. keyTestOf m f g a)) (sym known) ∙ h
 
-pub tested : (s : Set) (f g : List ℤ) (a : List ℕ) → keyTestOf s f g a ≡ Done → Tested s f g a
-tested s f g a h =
+pub key-tested : (s : Set) (f g : List ℤ) (a : List ℕ) → keyTestOf s f g a ≡ Done → Tested s f g a
+key-tested s f g a h =
     let first = must-passed itself (sized f && (sized g && sized a)) WrongLength _ refl (ap isDone h) in
     let next = must-passed itself (inRange f g a) CoefficientOutside (properKey s a f (second g)) refl (first .1) in
     let long = sized-three f g a (first .0) in
@@ -68,11 +68,11 @@ tested s f g a h =
       proper = sym (next .2) ∙ sym (first .2) ∙ h;
     }
 
-pub tested-some : (set : ℕ) (f g : List ℤ) (a : List ℕ) → keyTest set f g a ≡ Done → (s : Set) × Tested s f g a
+pub key-tested-some : (set : ℕ) (f g : List ℤ) (a : List ℕ) → keyTest set f g a ≡ Done → (s : Set) × Tested s f g a
 unfolding keyTest
-tested-some set f g a h =
+key-tested-some set f g a h =
     let known = set-known itself (askedOf set) UnknownSet (λ s. keyTestOf s f g a) refl (ap isDone h) in
-    (known .0, tested (known .0) f g a (sym (known .3) ∙ h))
+    (known .0, key-tested (known .0) f g a (sym (known .3) ∙ h))
 
 -- ---- s1 and s2
 module _ (f g : List ℤ) (lf : length f ≡ dimension) (lg : length g ≡ dimension) where

@@ -34,7 +34,7 @@ use Rattle.signing.specs.Response.{masked}
 use Rattle.checking.specs.Checking.{marks}
 use Rattle.checking.proofs.Marks.{length-marks, getD-marks}
 use Rattle.promises.specs.Published.{scaled, plus, modulo2q, zeta, ZetaInverts, a₁, KeyEquation, CommitmentSum, challenge, RebuildSum, minusOneTo, SignBit, LengthRules}
-use Rattle.promises.proofs.Keys.{tested-some, key-carries, second-parity}
+use Rattle.promises.proofs.Keys.{key-tested-some, key-carries, second-parity}
 use Rattle.promises.proofs.Sums.{getD-sums}
 
 pub zeta-inverts : ZetaInverts
@@ -163,7 +163,7 @@ carried-at a x s h ls i j =
 
 pub key-equation : KeyEquation
 key-equation set f g a passes =
-    let some = tested-some set f g a passes in
+    let some = key-tested-some set f g a passes in
     let key = some .1 in
     let left = times (a₁ a) f in
     let right = scaled (pos (modulus - 2)) (second g) in

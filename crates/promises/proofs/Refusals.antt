@@ -21,7 +21,7 @@ use Rattle.commitment.specs.Commitment.{commitment}
 use Rattle.draw.specs.declared.Ending.{Ending}
 use Rattle.draw.specs.declared.Ending.the-variants.{Accepted, Rejected as Turned, OutOfWords}
 use Rattle.draw.specs.Draw.{afterWalk}
-use Rattle.signing.specs.Response.{Responded, responded, drawn, responseFor, response}
+use Rattle.signing.specs.Response.{Responded, responded, drawn, signedWith, tested, responseFor, response}
 use Rattle.checking.specs.Checking.{rebuild}
 use Rattle.promises.specs.Demands.{CommitmentKeeps, RebuildKeeps, ResponseKeeps, ResponseCounts}
 
@@ -134,11 +134,11 @@ module _ (lent : ℕ) (z1 z2 : List ℤ) where
 
 module _ (set : ℕ) (f g : List ℤ) (a : List ℕ) (y1 y2 : List ℤ) (l : List ℕ) (bit : Bool) (thresholds words : List ℕ) (out1 out2 : List ℤ) where
   response-holds : Holds (KeepsBoth out1 out2) (response set f g a y1 y2 l bit thresholds words out1 out2)
-  unfolding response responseFor drawn
+  unfolding response responseFor tested signedWith drawn
   response-holds = search (ways, kept-both, written-both) depth 9
 
   count-holds : Holds (Counts (length words)) (response set f g a y1 y2 l bit thresholds words out1 out2)
-  unfolding response responseFor drawn
+  unfolding response responseFor tested signedWith drawn
   count-holds = search (ways, early, early-key, counts-early, late-rule, late-done, counts-late, counts-rejected, counts-short) depth 12
 
 pub response-keeps : ResponseKeeps
