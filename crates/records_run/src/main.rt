@@ -247,10 +247,14 @@ fn reader_buffers() {
 
 // The record of the two vectors and of the first places.
 fn fill(set: u32, count: usize, out: &mut [u8]) {
-    let z1 = first_vector();
-    let z2 = second_vector();
     let list = places();
-    write_to(set, &z1, &z2, &list, count, out);
+    records::write(
+        set,
+        &first_vector(),
+        &second_vector(),
+        first_places(&list, count),
+        out,
+    );
 }
 
 fn sample(set: u32, count: usize, room: usize) {
@@ -293,7 +297,7 @@ fn writing(set: u32, z1: &[i16], z2: &[i8], list: &[u16], count: usize, room: us
     number(z2.len() as u64);
     number(count as u64);
     number(room as u64);
-    show(write_room(set, z1, z2, list, count, room, &mut space));
+    show(write_room(set, z1, z2, first_places(list, count), room, &mut space));
     checked(set, &space);
 }
 
@@ -311,31 +315,19 @@ fn write_room(
     z1: &[i16],
     z2: &[i8],
     list: &[u16],
-    count: usize,
     room: usize,
     out: &mut [u8],
 ) -> Outcome {
     if room <= out.len() {
-        write_to(set, z1, z2, list, count, &mut out[0..room])
-    } else {
-        write_to(set, z1, z2, list, count, out)
-    }
-}
-
-// With the first places of a list.
-fn write_to(
-    set: u32,
-    z1: &[i16],
-    z2: &[i8],
-    list: &[u16],
-    count: usize,
-    out: &mut [u8],
-) -> Outcome {
-    if count <= list.len() {
-        records::write(set, z1, z2, &list[0..count], out)
+        records::write(set, z1, z2, list, &mut out[0..room])
     } else {
         records::write(set, z1, z2, list, out)
     }
+}
+
+// The first n places.
+fn first_places<'a>(list: &'a [u16], n: usize) -> &'a [u16] {
+    if n <= list.len() { &list[0..n] } else { list }
 }
 
 // The first n bytes.
