@@ -28,7 +28,7 @@ z2Offset = 1048
 abbrev pub listOffset : ℕ
 listOffset = 1560
 
--- the table, row by row
+-- the table, row by row: bytes 0-3; 4, 5; 6-7, 8-9; 10-11, 12-13; 14-15, 16-17; 18-19; 20-23
 unfoldable pub headerOf : Set → List ℕ
 headerOf s =
     letters
@@ -45,6 +45,7 @@ headerOf s =
 abbrev pub part : ℕ → ℕ → List ℕ → List ℕ
 part from to bytes = take (to - from) (drop from bytes)
 
+-- whether two byte strings are the same
 unfoldable pub alike : List ℕ → List ℕ → Bool
 alike [] [] = true
 alike [] (y ∷ ys) = false

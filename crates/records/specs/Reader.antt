@@ -23,6 +23,7 @@ readingFor s rec z1 z2 list =
     unless (refusalOf (signatureIn s rec)) (λ o. found o 0 z1 z2 list)
     (found Done (numberOf s) (signatureIn s rec .z1) (signatureIn s rec .z2) (signatureIn s rec .list ++ drop (kappaOf s) list))
 
+-- the lengths of the buffers, then the header
 unfoldable pub readingOf : List ℕ → List ℤ → List ℤ → List ℕ → Found
 readingOf rec z1 z2 list =
     must (eqb (length z1) dimension) (found WrongLength 0 z1 z2 list)

@@ -12,6 +12,7 @@ use Rattle.limits.specs.LengthRule.{lengthRule}
 use Rattle.byte_codes.specs.Bytes.{packed, unpacked, complement, signed}
 use Rattle.record_forms.specs.Headers.{z1Offset, z2Offset, listOffset, headerOf, part}
 
+-- z2 is z2 dagger
 pub record Signature : Type 0 where
   pub set : Set
   pub z1 : List ℤ

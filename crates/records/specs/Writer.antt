@@ -25,6 +25,7 @@ writingFor g out =
     (must (leb (totalOf (g .set)) (length out)) (written OutputShort out)
     (written Done (recordOf g ++ drop (totalOf (g .set)) out)))))
 
+-- for the set that the number stands for: called with 0 the writer writes 1
 unfoldable pub writingOf : ℕ → List ℤ → List ℤ → List ℕ → List ℕ → Written
 writingOf set z1 z2 list out =
     forSet (askedOf set) (written UnknownSet out)

@@ -1,5 +1,5 @@
 // The five calls on records of every set: a header damaged byte by byte, every length, entries at the limits and past them, improper lists, buffers of the
-// wrong length. A line for each case: the number and the place, the set that the reader answers, and checksums of what the buffers hold afterwards.
+// wrong length. A line for each case: the number and the place, the set that the reader answers, and checksums of what the output or the buffers hold afterwards.
 ghost use mathlib.Core.Path.{_≡_};
 ghost use lib.ListN.{length};
 use answers::Outcome;
@@ -87,6 +87,32 @@ fn second_vector() -> [i8; 512]
     z2
 }
 
+// 1,700 times the same byte, more than any record has.
+fn bytes_of(b: u8) -> [u8; 1700]
+    ensures { λ r. ⌜ length r ≡ 1700 ⌝ }
+{
+    [b; 1700]
+}
+
+// 600 times the same number, more than any vector has.
+fn wide_of(x: i16) -> [i16; 600]
+    ensures { λ r. ⌜ length r ≡ 600 ⌝ }
+{
+    [x; 600]
+}
+
+fn narrow_of(x: i8) -> [i8; 600]
+    ensures { λ r. ⌜ length r ≡ 600 ⌝ }
+{
+    [x; 600]
+}
+
+fn places_of(x: u16) -> [u16; 50]
+    ensures { λ r. ⌜ length r ≡ 50 ⌝ }
+{
+    [x; 50]
+}
+
 // Sets 0 to 5, with lists of 23, 30 and 39 places each: the record, and what it reads as.
 fn every_set() {
     for_set(0);
@@ -98,25 +124,22 @@ fn every_set() {
 }
 
 fn for_set(set: u32) {
-    let z1 = first_vector();
-    let z2 = second_vector();
-    let list = places();
-    writing(set, &z1, &z2, &list, 23, 1700);
-    writing(set, &z1, &z2, &list, 30, 1700);
-    writing(set, &z1, &z2, &list, 39, 1700);
+    sample(set, 23, 1700);
+    sample(set, 30, 1700);
+    sample(set, 39, 1700);
 }
 
-// A record of set 1 with one byte more by 1, for each byte of the header; then other numbers for the set.
+// A record of set 1 with one byte more by 1, for each byte of the header; then 0 and 3 for the set.
 fn header_bytes() {
-    let mut rec = [0u8; 1606];
+    let mut rec = bytes_of(0);
     fill(1, 23, &mut rec);
-    each_byte(&mut rec);
-    more_by(&mut rec, 4, 255);
-    more_by(&mut rec, 4, 2);
-    more_by(&mut rec, 4, 3);
-    more_by(&mut rec, 4, 4);
-    more_by(&mut rec, 4, 254);
-    more_by(&mut rec, 24, 1);
+    damage(&mut rec[0..1606]);
+}
+
+fn damage(rec: &mut [u8]) {
+    each_byte(rec);
+    more_by(rec, 4, 255);
+    more_by(rec, 4, 2);
 }
 
 fn each_byte(rec: &mut [u8]) {
@@ -158,10 +181,10 @@ fn limits() {
     one_rounded(4, 511, 7, 39);
     one_rounded(4, 510, 127, 39);
     one_rounded(4, 510, -128, 39);
-    sums(1, 568, 23);
-    sums(1, 569, 23);
-    sums(4, 437, 39);
-    sums(4, 438, 39);
+    alike(1, 568, 512, 512, 23, 1700);
+    alike(1, 569, 512, 512, 23, 1700);
+    alike(4, 437, 512, 512, 39, 1700);
+    alike(4, 438, 512, 512, 39, 1700);
 }
 
 // One place of the list of set 1 changed: at the bounds, repeated, falling, too large.
@@ -186,92 +209,133 @@ fn buffers() {
 }
 
 fn vectors_short_or_long() {
-    let z1 = first_vector();
-    let z2 = second_vector();
-    let list = places();
-    writing(1, &[7; 511], &z2, &list, 23, 1700);
-    writing(1, &[7; 513], &z2, &list, 23, 1700);
-    writing(1, &z1, &[0; 511], &list, 23, 1700);
-    writing(1, &z1, &[0; 513], &list, 23, 1700);
+    alike(1, 7, 511, 512, 23, 1700);
+    alike(1, 7, 513, 512, 23, 1700);
+    alike(1, 7, 512, 511, 23, 1700);
+    alike(1, 7, 512, 513, 23, 1700);
 }
 
 fn outputs() {
-    let z1 = first_vector();
-    let z2 = second_vector();
-    let list = places();
-    writing(1, &z1, &z2, &list, 23, 0);
-    writing(1, &z1, &z2, &list, 23, 1605);
-    writing(1, &z1, &z2, &list, 23, 1606);
-    writing(4, &z1, &z2, &list, 39, 1637);
-    writing(4, &z1, &z2, &list, 39, 1638);
+    sample(1, 23, 0);
+    sample(1, 23, 1605);
+    sample(1, 23, 1606);
+    sample(4, 39, 1637);
+    sample(4, 39, 1638);
 }
 
 // 1 before 2, 2 before 5, 5 before 10, 10 before 14.
 fn first_refusals() {
-    let z2 = second_vector();
-    let list = places();
-    writing(5, &[7; 511], &z2, &list, 22, 0);
-    writing(1, &[7; 511], &z2, &list, 22, 0);
-    writing(1, &[2101; 512], &z2, &list, 22, 0);
-    writing(1, &[2101; 512], &z2, &list, 23, 0);
+    alike(5, 7, 511, 512, 22, 0);
+    alike(1, 7, 511, 512, 22, 0);
+    alike(1, 2101, 512, 512, 22, 0);
+    alike(1, 2101, 512, 512, 23, 0);
 }
 
 // Each of the reader's buffers short and long, with a good record; and 2 before 13.
 fn reader_buffers() {
-    let mut rec = [0u8; 1606];
-    fill(2, 23, &mut rec);
-    reading(&rec, 1606, 511, 512, 39);
-    reading(&rec, 1606, 513, 512, 39);
-    reading(&rec, 1606, 512, 511, 39);
-    reading(&rec, 1606, 512, 513, 39);
-    reading(&rec, 1606, 512, 512, 38);
-    reading(&rec, 1606, 512, 512, 40);
-    reading(&rec, 23, 512, 512, 38);
-    reading(&rec, 23, 512, 512, 39);
+    with_buffers(1606, 511, 512, 39);
+    with_buffers(1606, 513, 512, 39);
+    with_buffers(1606, 512, 511, 39);
+    with_buffers(1606, 512, 513, 39);
+    with_buffers(1606, 512, 512, 38);
+    with_buffers(1606, 512, 512, 40);
+    with_buffers(23, 512, 512, 38);
+    with_buffers(23, 512, 512, 39);
 }
 
 // ---- one case
 
 // The record of the two vectors and of the first places.
 fn fill(set: u32, count: usize, out: &mut [u8]) {
-    let z1 = first_vector();
-    let z2 = second_vector();
     let list = places();
-    if count <= 39 {
-        records::write(set, &z1, &z2, &list[0..count], out);
+    records::write(
+        set,
+        &first_vector(),
+        &second_vector(),
+        first_places(&list, count),
+        out,
+    );
+}
+
+fn sample(set: u32, count: usize, room: usize) {
+    writing(
+        set,
+        &first_vector(),
+        &second_vector(),
+        &places(),
+        count,
+        room,
+    );
+}
+
+// z1 as n1 times the same number, z2 dagger as n2 zeros.
+fn alike(set: u32, x: i16, n1: usize, n2: usize, count: usize, room: usize) {
+    parts(set, &wide_of(x), n1, &narrow_of(0), n2, count, room);
+}
+
+// The first entries of each.
+fn parts(set: u32, z1: &[i16], n1: usize, z2: &[i8], n2: usize, count: usize, room: usize) {
+    if n1 <= z1.len() {
+        if n2 <= z2.len() {
+            writing(set, &z1[0..n1], &z2[0..n2], &places(), count, room);
+        }
     }
+}
+
+fn with_buffers(lent: usize, n1: usize, n2: usize, n3: usize) {
+    let mut rec = bytes_of(0);
+    fill(2, 23, &mut rec);
+    reading(front(&rec, lent), n1, n2, n3);
 }
 
 // Writes to the front of 1,700 bytes of 165, of which `room` are lent; then reads as many of them as the set's total.
 fn writing(set: u32, z1: &[i16], z2: &[i8], list: &[u16], count: usize, room: usize) {
-    let mut space = [165u8; 1700];
+    let mut space = bytes_of(165);
     print(b"write ");
     number(set as u64);
     number(z1.len() as u64);
     number(z2.len() as u64);
     number(count as u64);
     number(room as u64);
-    write_to(set, z1, z2, list, count, room, &mut space);
-    number(sum(&space));
-    print(b"\n");
-    let total = total_of(set);
-    reading(&space, total, 512, 512, 39);
-    sections(&space, total);
+    show(write_room(set, z1, z2, first_places(list, count), room, &mut space));
+    checked(set, &space);
 }
 
-fn write_to(
+fn checked(set: u32, space: &[u8]) {
+    number(sum(space));
+    print(b"\n");
+    let rec = front(space, total_of(set));
+    reading(rec, 512, 512, 39);
+    sections(rec);
+}
+
+// To the first bytes of an output.
+fn write_room(
     set: u32,
     z1: &[i16],
     z2: &[i8],
     list: &[u16],
-    count: usize,
     room: usize,
     out: &mut [u8],
-) {
-    if count <= list.len() {
-        if room <= out.len() {
-            show(records::write(set, z1, z2, &list[0..count], &mut out[0..room]));
-        }
+) -> Outcome {
+    if room <= out.len() {
+        records::write(set, z1, z2, list, &mut out[0..room])
+    } else {
+        records::write(set, z1, z2, list, out)
+    }
+}
+
+// The first n places.
+fn first_places<'a>(list: &'a [u16], n: usize) -> &'a [u16] {
+    if n <= list.len() { &list[0..n] } else { list }
+}
+
+// The first n bytes.
+fn front<'a>(bytes: &'a [u8], n: usize) -> &'a [u8] {
+    if n <= bytes.len() {
+        &bytes[0..n]
+    } else {
+        bytes
     }
 }
 
@@ -283,21 +347,20 @@ fn total_of(set: u32) -> usize {
     }
 }
 
-// Reads the first bytes of a slice into buffers of the lengths n1, n2, n3, which hold -1, -1 and 999.
-fn reading(rec: &[u8], lent: usize, n1: usize, n2: usize, n3: usize) {
-    let mut z1 = [-1i16; 600];
-    let mut z2 = [-1i8; 600];
-    let mut list = [999u16; 50];
+// Reads into buffers of the lengths n1, n2, n3, which hold -1, -1 and 999.
+fn reading(rec: &[u8], n1: usize, n2: usize, n3: usize) {
+    let mut z1 = wide_of(-1);
+    let mut z2 = narrow_of(-1);
+    let mut list = places_of(999);
     print(b"read ");
-    number(lent as u64);
-    read_to(rec, lent, &mut z1, n1, &mut z2, n2, &mut list, n3);
-    buffer_sums(&z1, &z2, &list);
+    number(rec.len() as u64);
+    read_to(rec, &mut z1, n1, &mut z2, n2, &mut list, n3);
+    number(buffer_sum(&z1, &z2, &list));
     print(b"\n");
 }
 
 fn read_to(
     rec: &[u8],
-    lent: usize,
     z1: &mut [i16],
     n1: usize,
     z2: &mut [i8],
@@ -305,39 +368,30 @@ fn read_to(
     list: &mut [u16],
     n3: usize,
 ) {
-    if lent <= rec.len() {
-        if n1 <= z1.len() {
-            if n2 <= z2.len() {
-                if n3 <= list.len() {
-                    let r = records::read(
-                        &rec[0..lent],
-                        &mut z1[0..n1],
-                        &mut z2[0..n2],
-                        &mut list[0..n3],
-                    );
-                    let o = r.outcome;
-                    show(o);
-                    let set = r.set;
-                    number(set as u64);
-                }
+    if n1 <= z1.len() {
+        if n2 <= z2.len() {
+            if n3 <= list.len() {
+                let r = records::read(rec, &mut z1[0..n1], &mut z2[0..n2], &mut list[0..n3]);
+                let o = r.outcome;
+                show(o);
+                let set = r.set;
+                number(set as u64);
             }
         }
     }
 }
 
-fn sections(rec: &[u8], lent: usize) {
-    if lent <= rec.len() {
-        let mut n = 99;
-        let mut place = 99;
-        print(b"sections");
-        let z1 = records::z1_section(&rec[0..lent], &mut n, &mut place);
-        part(z1, n, place);
-        let z2 = records::z2_section(&rec[0..lent], &mut n, &mut place);
-        part(z2, n, place);
-        let list = records::list_section(&rec[0..lent], &mut n, &mut place);
-        part(list, n, place);
-        print(b"\n");
-    }
+fn sections(rec: &[u8]) {
+    let mut n = 99;
+    let mut place = 99;
+    print(b"sections");
+    let z1 = records::z1_section(rec, &mut n, &mut place);
+    part(z1, n, place);
+    let z2 = records::z2_section(rec, &mut n, &mut place);
+    part(z2, n, place);
+    let list = records::list_section(rec, &mut n, &mut place);
+    part(list, n, place);
+    print(b"\n");
 }
 
 fn part(bytes: &[u8], n: u32, place: u32) {
@@ -357,56 +411,46 @@ fn more_by(rec: &mut [u8], at: usize, by: u8) {
         print(b"\n");
         let old = rec[at];
         rec[at] = std::num::wrapping_add_u8(old, by);
-        reading(rec, 1606, 512, 512, 39);
-        sections(rec, 1606);
+        reading(rec, 512, 512, 39);
+        sections(rec);
         rec[at] = old;
     }
 }
 
-// z1 with one entry that is not 0, by the writer; and the same in a record that was not written so.
+// One entry that is not 0, by the writer; and the same in a record that was not written so.
 fn one_entry(set: u32, at: usize, value: i16, kappa: usize) {
-    let mut z1 = [0i16; 512];
-    let list = places();
     if at < 512 {
+        let mut z1 = wide_of(0);
         z1[at] = value;
-        writing(set, &z1, &[0; 512], &list, kappa, 1700);
+        parts(set, &z1, 512, &narrow_of(0), 512, kappa, 1700);
         raw(set, kappa, 24 + 2 * at, byte_codes::bits16(value));
     }
 }
 
 fn one_rounded(set: u32, at: usize, value: i8, kappa: usize) {
-    let mut z2 = [0i8; 512];
-    let list = places();
     if at < 512 {
+        let mut z2 = narrow_of(0);
         z2[at] = value;
-        writing(set, &[0; 512], &z2, &list, kappa, 1700);
+        parts(set, &wide_of(0), 512, &z2, 512, kappa, 1700);
         raw(set, kappa, 1048 + at, byte_codes::bits8(value) as u16);
     }
 }
 
-// z1 with 512 times the same number.
-fn sums(set: u32, value: i16, kappa: usize) {
-    let list = places();
-    writing(set, &[value; 512], &[0; 512], &list, kappa, 1700);
-}
-
 fn one_place(at: usize, place: u16) {
-    let z1 = first_vector();
-    let z2 = second_vector();
     let mut list = places();
     if at < 39 {
         list[at] = place;
-        writing(1, &z1, &z2, &list, 23, 1700);
+        writing(1, &first_vector(), &second_vector(), &list, 23, 1700);
         raw(1, 23, 1560 + 2 * at, place);
     }
 }
 
 // The record of a set, with two of its bytes changed.
 fn raw(set: u32, kappa: usize, at: usize, x: u16) {
-    let mut rec = [0u8; 1700];
+    let mut rec = bytes_of(0);
     fill(set, kappa, &mut rec);
     change(&mut rec, at, x);
-    reading(&rec, total_of(set), 512, 512, 39);
+    reading(front(&rec, total_of(set)), 512, 512, 39);
 }
 
 fn change(rec: &mut [u8], at: usize, x: u16) {
@@ -418,7 +462,7 @@ fn change(rec: &mut [u8], at: usize, x: u16) {
 }
 
 fn each_length(set: u32, kappa: usize) {
-    let mut rec = [0u8; 1700];
+    let mut rec = bytes_of(0);
     fill(set, kappa, &mut rec);
     from_nothing(&rec);
 }
@@ -432,30 +476,20 @@ fn from_nothing(rec: &[u8]) {
     }
 }
 
-// The answers of the reader and of the list's section call to the first n bytes: a line where they are not the last ones.
+// What the list's section call answers to the first n bytes: where that is not the last answer, a line, and what the reader answers.
 fn at_length(rec: &[u8], n: usize, last: u64) -> u64 {
-    if n <= rec.len() {
-        let mut z1 = [0i16; 512];
-        let mut z2 = [0i8; 512];
-        let mut list = [0u16; 39];
-        let r = records::read(&rec[0..n], &mut z1, &mut z2, &mut list);
-        let o = r.outcome;
-        let read = (o.number() as u64) * 65536 + (o.place() as u64) % 65536;
-        let mut k = 99;
-        let mut place = 99;
-        let bytes = records::list_section(&rec[0..n], &mut k, &mut place);
-        let now = read * 64 + (bytes.len() as u64) % 64 + 1;
-        if now != last {
-            print(b"length ");
-            number(n as u64);
-            show(o);
-            part(bytes, k, place);
-            print(b"\n");
-        }
-        now
-    } else {
-        last
+    let lent = front(rec, n);
+    let mut k = 99;
+    let mut place = 99;
+    let bytes = records::list_section(lent, &mut k, &mut place);
+    let now = (k as u64) * 65536 + (place as u64) % 65536;
+    if now != last {
+        print(b"length");
+        part(bytes, k, place);
+        print(b"\n");
+        reading(lent, 512, 512, 39);
     }
+    now
 }
 
 // ---- text and checksums
@@ -484,20 +518,22 @@ fn sum(bytes: &[u8]) -> u64 {
     s
 }
 
-// Of the reader's three buffers.
-fn buffer_sums(z1: &[i16], z2: &[i8], list: &[u16]) {
-    let mut first = [0u8; 1200];
-    let mut second = [0u8; 600];
-    let mut third = [0u8; 100];
-    if z1.len() == 600 {
-        if z2.len() == 600 {
-            if list.len() == 50 {
-                byte_codes::pack_wide(z1, &mut first);
-                byte_codes::pack_narrow(z2, &mut second);
-                byte_codes::pack_places(list, &mut third);
-                number(sum(&first));
-                number(sum(&second));
-                number(sum(&third));
+// Of the reader's three buffers together.
+fn buffer_sum(z1: &[i16], z2: &[i8], list: &[u16]) -> u64 {
+    let mut bytes = [0u8; 1900];
+    pack(z1, z2, list, &mut bytes);
+    sum(&bytes)
+}
+
+fn pack(z1: &[i16], z2: &[i8], list: &[u16], out: &mut [u8]) {
+    if out.len() == 1900 {
+        if z1.len() == 600 {
+            if z2.len() == 600 {
+                if list.len() == 50 {
+                    byte_codes::pack_wide(z1, &mut out[0..1200]);
+                    byte_codes::pack_narrow(z2, &mut out[1200..1800]);
+                    byte_codes::pack_places(list, &mut out[1800..1900]);
+                }
             }
         }
     }
