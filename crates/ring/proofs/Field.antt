@@ -1,22 +1,24 @@
 -- Residues modulo 12289: the laws of sums and products, a list of them that sorts both sides of an equation alike, and the powers of 49.
 -- Assumes nothing.
-use mathlib.Core.Path.{_≡_, refl, ap, ap₂, sym, _∙_}
-use Prim.Native.Nat.{ℕ, zero, suc, _+_, _*_, _/_, _%_, _<_, _≤_}
+use mathlib.Core.Path.{_≡_, refl, ap, ap₂, sym, fun-ext, _∙_}
+use mathlib.Core.List.{List, [], _∷_}
+use Prim.Native.Nat.{ℕ, zero, suc, _+_, _*_, _/_, _%_, _≤_}
 use native.Mathlib.Nat as N
 use native.Mathlib.Omega.{arith}
+use Rattle.laws.specs.Lists.{tabulate}
 use Rattle.sets.specs.Numbers.{modulus}
 use Rattle.ring.specs.Transform.{sub}
 use Rattle.polynomials.specs.Field.{add, mul}
 use Rattle.ring.specs.Powers.{power}
 
 -- a product does not change when a factor is reduced
-pub mod-left : (a b m : ℕ) → a % m * b % m ≡ a * b % m
+mod-left : (a b m : ℕ) → a % m * b % m ≡ a * b % m
 mod-left a b m =
     sym (ap (λ (n : ℕ). n * b % m) (sym (N.mod-add-div a m))
     ∙ ap (λ (n : ℕ). n % m) (N.add-mul (a % m) (m * (a / m)) b ∙ ap (λ (n : ℕ). a % m * b + n) (N.mul-assoc m (a / m) b))
     ∙ N.add-mul-mod-self-left (a % m * b) m (a / m * b))
 
-pub mod-right : (a b m : ℕ) → a * (b % m) % m ≡ a * b % m
+mod-right : (a b m : ℕ) → a * (b % m) % m ≡ a * b % m
 mod-right a b m = ap (λ (n : ℕ). n % m) (N.mul-comm a (b % m)) ∙ mod-left b a m ∙ ap (λ (n : ℕ). n % m) (N.mul-comm b a)
 
 pub add-comm : (x y : ℕ) → add x y ≡ add y x
@@ -112,3 +114,19 @@ power-512 = refl
 
 pub power-opposite : (i : ℕ) → power (i + 512) ≡ mul 12288 (power i)
 power-opposite i = power-add i 512 ∙ ap (mul (power i)) power-512 ∙ mul-comm (power i) 12288
+
+-- n numbers from x on, each 49 times the one before: the table is tested against these, in as many steps as it has entries
+unfoldable pub onward : ℕ → ℕ → List ℕ
+onward x zero = []
+onward x (suc n) = x ∷ onward (49 * x % modulus) n
+
+onward-from : (k n : ℕ) → onward (power k) n ≡ tabulate (λ i. power (i + k)) n
+unfolding onward tabulate power
+onward-from k zero = refl
+onward-from k (suc n) =
+    ap₂ _∷_ (ap power (sym (N.zero-add k)))
+    (onward-from (suc k) n ∙ ap (λ (f : ℕ → ℕ). tabulate f n) (fun-ext (λ i. ap power (N.add-suc i k ∙ sym (N.suc-add i k)))))
+
+pub onward-powers : (n : ℕ) → onward 1 n ≡ tabulate power n
+unfolding power
+onward-powers n = onward-from 0 n ∙ ap (λ (f : ℕ → ℕ). tabulate f n) (fun-ext (λ i. ap power (N.add-zero i)))

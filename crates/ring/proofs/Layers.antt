@@ -5,14 +5,13 @@ use mathlib.Core.List.{List, _++_}
 use Prim.Native.Nat.{ℕ, zero, suc, _+_, _-_, _/_, _<_, _≤_}
 use native.Mathlib.Nat.{not-suc-le-zero}
 use native.Mathlib.Omega.{arith}
-use lib.ListN.{length, take, drop, getD, length-append, length-drop}
-use lib.Seq.{length-take-le, take-at, drop-at}
-use Rattle.laws.specs.Lists.{tabulate}
+use lib.ListN.{length, take, drop, getD}
+use lib.Seq.{take-at, drop-at}
 use Rattle.laws.proofs.Entries.{length-tabulate, getD-tabulate}
 use Rattle.ring.specs.Powers.{power, Powers}
 use Rattle.ring.specs.Transform.{Within, low, high, size, remainders, joined, convolution, productModulo}
 use Rattle.ring.proofs.Products.{length-low}
-use Rattle.ring.proofs.Spectra.{length-high, within-low, within-high}
+use Rattle.ring.proofs.Spectra.{within-low, within-high}
 use Rattle.ring.proofs.Field.{power-le}
 
 -- ---- the table

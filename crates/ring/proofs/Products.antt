@@ -1,8 +1,8 @@
 -- Products modulo x^n - w: their lengths and bounds, and that a remainder modulo x^h - w of a product is the product of the remainders.
 -- Assumes nothing.
-use mathlib.Core.Path.{_≡_, refl, ap, ap₂, sym, fun-ext, _∙_}
+use mathlib.Core.Path.{_≡_, refl, ap, ap₂, sym, _∙_}
 use mathlib.Core.List.{List, [], _∷_, _++_, map, append-assoc, append-nil}
-use Prim.Native.Nat.{ℕ, zero, suc, _+_, _-_, _<_, _≤_}
+use Prim.Native.Nat.{ℕ, zero, suc, _+_, _-_, _<_}
 use native.Mathlib.Nat.{suc-inj, suc-ne-zero}
 use native.Mathlib.Omega.{arith}
 use lib.ListN.{length, take, drop, getD, replicate, length-append, length-drop, length-replicate, drop-of-length-le, take-append-drop, replicate-append-replicate}
@@ -11,7 +11,7 @@ use Rattle.laws.specs.Lists.{zipWith}
 use Rattle.laws.proofs.Entries.{length-zipWith, getD-zipWith, zipWith-append}
 use Rattle.laws.proofs.Pointwise.{take-zipWith, drop-zipWith, zipWith-replicate, zipWith-medial}
 use Rattle.polynomials.specs.Field.{add, mul}
-use Rattle.ring.specs.Transform.{sub, Within, turn, productModulo, plus, minus, low, high}
+use Rattle.ring.specs.Transform.{Within, turn, productModulo, plus, low, high}
 use Rattle.ring.proofs.Field as F
 use Rattle.ring.proofs.Field.{field}
 use Rattle.ring.proofs.Zips.{within-zipWith, within-zeros, shared, joined-later, zipWith-map, zipWith-alike}

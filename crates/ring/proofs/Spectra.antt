@@ -1,7 +1,7 @@
 -- The transform: lengths, bounds, and that products of remainders, put together again, are the product, doubled at each join.
 -- Assumes nothing.
 use mathlib.Core.Path.{_≡_, refl, ap, ap₂, sym, _∙_}
-use mathlib.Core.Bool.{Bool, true, false, _&&_}
+use mathlib.Core.Bool.{Bool, true, _&&_}
 use mathlib.Core.List.{List, [], _∷_, _++_, map, map-append, map-map}
 use Prim.Native.Nat.{ℕ, zero, suc, _+_, _-_, _/_, _%_, _<_, _≤_}
 use native.Mathlib.Omega.{arith}
@@ -32,7 +32,7 @@ positive (suc k) = omega (arith, positive k)
 
 -- ---- lengths and bounds
 
-pub length-high : (w h : ℕ) (g : List ℕ) → length g ≡ h + h → length (high h w g) ≡ h
+length-high : (w h : ℕ) (g : List ℕ) → length g ≡ h + h → length (high h w g) ≡ h
 length-high w h g e = ap length (high-low w h g) ∙ length-low (mul 12288 w) h g e
 
 pub within-low : (w h : ℕ) (g : List ℕ) → Within 12288 (low h w g)
@@ -43,7 +43,7 @@ pub within-high : (w h : ℕ) (g : List ℕ) → Within 12288 (high h w g)
 unfolding high
 within-high w h g = within-zipWith 12288 (minus w) (λ x y. F.add-le x (mul 12288 (mul w y))) (take h g) (drop h g)
 
-pub length-remainders : (k e : ℕ) (f : List ℕ) → length f ≡ size k → length (remainders k e f) ≡ size k
+length-remainders : (k e : ℕ) (f : List ℕ) → length f ≡ size k → length (remainders k e f) ≡ size k
 unfolding remainders size
 length-remainders zero e f len = len
 length-remainders (suc k) e f len =
@@ -52,7 +52,7 @@ length-remainders (suc k) e f len =
     ∙ ap₂ _+_ (length-remainders k (e / 2) (low (size k) w f) (length-low w (size k) f len))
     (length-remainders k (e / 2 + 512) (high (size k) w f) (length-high w (size k) f len))
 
-pub within-remainders : (k e : ℕ) (f : List ℕ) → Within 12288 f → Within 12288 (remainders k e f)
+within-remainders : (k e : ℕ) (f : List ℕ) → Within 12288 f → Within 12288 (remainders k e f)
 unfolding remainders
 within-remainders zero e f p = p
 within-remainders (suc k) e f p =

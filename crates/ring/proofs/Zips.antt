@@ -1,11 +1,11 @@
 -- Vectors joined entry by entry: parts, bounds, and joins of joins.
 -- Assumes nothing.
-use mathlib.Core.Path.{_≡_, refl, ap, ap₂, sym, fun-ext, _∙_}
+use mathlib.Core.Path.{_≡_, refl, ap, ap₂, sym, fun-ext}
 use mathlib.Core.List.{List, [], _∷_, _++_, map}
-use Prim.Native.Nat.{ℕ, zero, suc, _+_, _-_, _<_, _≤_}
+use Prim.Native.Nat.{ℕ, zero, suc, _+_, _≤_}
 use native.Mathlib.Nat.{suc-inj, suc-ne-zero}
 use native.Mathlib.Omega.{arith}
-use lib.ListN.{length, take, drop, getD, replicate}
+use lib.ListN.{length, take, drop, replicate}
 use lib.Seq.{getD-drop}
 use Rattle.laws.specs.Lists.{zipWith}
 use Rattle.ring.specs.Transform.{Within}

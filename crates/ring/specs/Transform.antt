@@ -1,6 +1,5 @@
 -- The transform: a polynomial modulo x^512 + 1 is taken apart into its remainders modulo x^8 - w for 64 numbers w, products are made of
 -- remainders, and put together again. What the product is does not rest on this page (polynomials/specs/Product.antt says it).
-use mathlib.Core.Path.{_≡_}
 use mathlib.Core.List.{List, [], _∷_, _++_, map}
 use Prim.Native.Nat.{ℕ, zero, suc, _+_, _-_, _/_, _%_, _≤_}
 use lib.ListN.{length, getD, take, drop, replicate}

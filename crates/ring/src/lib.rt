@@ -3,7 +3,7 @@ mod table;
 
 ghost use mathlib.Core.Path.{_≡_};
 ghost use mathlib.Core.List.{_∷_, _++_, map};
-ghost use Prim.Native.Nat.{ℕ, _+_, _*_, _/_, _%_, _<_, _≤_};
+ghost use Prim.Native.Nat.{_+_, _*_, _/_, _%_, _<_, _≤_};
 ghost use lib.ListN.{length, getD, take, drop};
 ghost use Rattle.laws.specs.Integers.{residue};
 ghost use Rattle.laws.specs.Lists.{zipWith};
@@ -24,7 +24,7 @@ const THRICE: i32 = 3 * (Set::MODULUS as i32);
 // 1 divided by 64, modulo q.
 const INVERSE: u16 = 12097;
 
-// The product of the key a and z.
+// The product of the key a and z. One working vector lives beside out, which serves as the other: the spectrum. The table is laid out on the stack too.
 pub fn key_product(a: &[u16], z: &[i16], out: &mut [u16])
     requires { ⌜ (length (now a) ≡ dimension) × (length (now z) ≡ dimension) × (length (now out) ≡ dimension) ⌝ }
     ensures { λ _. ⌜ now (out .exit) ≡ product (now (a .entry)) (now (z .entry)) ⌝ }
@@ -72,6 +72,7 @@ fn multiply_by(a: &[u16], spectrum: &[u16], z: &[i16], out: &mut [u16], powers: 
     rescale(out);
 }
 
+// The table, whose rule is proved here once.
 fn powers() -> [u16; 1024]
     ensures { λ r. ⌜ Powers r ⌝ }
 {
@@ -80,6 +81,7 @@ fn powers() -> [u16; 1024]
 
 // ---- residues of operands and of the answer
 
+// A key may have any coefficients: its residues are what counts.
 fn residues(s: &mut [u16], a: &[u16])
     requires { ⌜ (length (now s) ≡ dimension) × (length (now a) ≡ dimension) ⌝ }
     ensures { λ _. ⌜ now (s .exit) ≡ map (λ x. x % modulus) (now (a .entry)) ⌝ }

@@ -1,6 +1,6 @@
 // Makes 2,000 products, each with the answer before as the key, and writes the last coefficient of the last. The instructions of one product, both of
 // whose operands are transformed, are a 2,000th of those that `valgrind --tool=callgrind` counts of this program.
-ghost use Prim.Native.Nat.{_<_};
+
 use libc::STDOUT_FILENO;
 use sets::Set;
 

@@ -53,20 +53,25 @@ drawn s a y z v thresholds words out1 out2 =
     (λ count. responded Rejected count out1 out2)
     (responded WordMissing (length words) out1 out2)
 
--- the tests before the draw: 2, 3, 4, 5, 7, 6
-abbrev pub admitted : Set → List ℤ → List ℤ → List ℕ → List ℤ → List ℤ → List ℕ → List ℕ → List ℤ → List ℤ → Outcome
-admitted s f g a y1 y2 l thresholds out1 out2 =
-    must (sized f && (sized g && (sized a && (sized y1 && (sized y2 && (sized out1 && (sized out2 && eqb (length thresholds) places))))))) WrongLength
-    (must (inRange f g a) CoefficientOutside
-    (must (areMasks y1 y2) MaskOutside
-    (must (properList s l) ImproperList
-    (properKey s a f (second g)))))
+-- the squared length of the key and its relation, then the sign choices and the draw: 7, 6, 8 or 9, 10, 11
+unfoldable pub signedWith : Set → List ℤ → List ℤ → List ℕ → List ℤ → List ℤ → List ℕ → Bool → List ℕ → List ℕ → List ℤ → List ℤ → Responded
+signedWith s s1 s2 a y1 y2 l bit thresholds words out1 out2 =
+    unless (properKey s a s1 s2) (λ o. responded o 0 out1 out2)
+    (drawn s a (pair y1 y2) (masked bit (pair y1 y2) (choices (pair s1 s2) l)) (choices (pair s1 s2) l) thresholds words out1 out2)
 
--- the response for a set: 2, 3, 4, 5, 7, 6, 8 or 9, 10, 11; `out1` and `out2` are what the output vectors held before
+-- key, masks and list: 3, 4, 5, then the above
+unfoldable pub tested : Set → List ℤ → List ℤ → List ℕ → List ℤ → List ℤ → List ℕ → Bool → List ℕ → List ℕ → List ℤ → List ℤ → Responded
+tested s f g a y1 y2 l bit thresholds words out1 out2 =
+    must (inRange f g a) (responded CoefficientOutside 0 out1 out2)
+    (must (areMasks y1 y2) (responded MaskOutside 0 out1 out2)
+    (must (properList s l) (responded ImproperList 0 out1 out2)
+    (signedWith s f (second g) a y1 y2 l bit thresholds words out1 out2)))
+
+-- the response for a set: 2, then the above; `out1` and `out2` are what the output vectors held before
 unfoldable pub responseFor : Set → List ℤ → List ℤ → List ℕ → List ℤ → List ℤ → List ℕ → Bool → List ℕ → List ℕ → List ℤ → List ℤ → Responded
 responseFor s f g a y1 y2 l bit thresholds words out1 out2 =
-    unless (admitted s f g a y1 y2 l thresholds out1 out2) (λ o. responded o 0 out1 out2)
-    (drawn s a (pair y1 y2) (masked bit (pair y1 y2) (choices (pair f (second g)) l)) (choices (pair f (second g)) l) thresholds words out1 out2)
+    must (sized f && (sized g && (sized a && (sized y1 && (sized y2 && (sized out1 && (sized out2 && eqb (length thresholds) places))))))) (responded WrongLength 0 out1 out2)
+    (tested s f g a y1 y2 l bit thresholds words out1 out2)
 
 -- the response: 1, 2, 3, 4, 5, 7, 6, 8 or 9, 10, 11
 unfoldable pub response : ℕ → List ℤ → List ℤ → List ℕ → List ℤ → List ℤ → List ℕ → Bool → List ℕ → List ℕ → List ℤ → List ℤ → Responded

@@ -1,19 +1,14 @@
 -- `ring::block` meets its contract. The loop's invariant: the rows from i on are made. Assumes nothing.
-use mathlib.Core.Path.{_≡_, refl, ap, sym, _∙_}
+use mathlib.Core.Path.{_≡_, ap, _∙_}
 use mathlib.Core.List.{List, _++_}
 use Prim.Native.Nat.{ℕ, _≤_, _-_, _+_, _<_}
 use native.Mathlib.Omega.{arith}
-use borrow.Author.Needs.{needs}
 use lib.ListN.{length, getD, take, drop, length-drop}
 use lib.Seq.{length-take-le, take-all, drop-at, take-append-le}
 use borrow.Rule.Slice.PartMut.{putMid, same-len-mid}
 use Rattle.ring.proofs.Rows.{Window, grown, begin, room, more, finish}
 use Rattle.ring.proofs.block.Statement.{statement}
 use Rattle.ring.proofs.block.Tie as tie
-use Rattle.ring.proofs.block.Reads as reads
-use Rattle.ring.proofs.block.Lts as lts
-use Rattle.ring.proofs.reduce.Reads as reduce-reads
-use Rattle.ring.proofs.row.Reads as row-reads
 
 -- the part of c from i on
 part-is : (i : ℕ) (c : List ℕ) → length c ≡ 16 → take (16 - i) (drop i c) ≡ drop i c

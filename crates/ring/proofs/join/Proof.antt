@@ -1,9 +1,9 @@
 -- `ring::join` meets its contract. The loop's invariant: i entries of each half are rewritten. Assumes nothing.
-use mathlib.Core.Path.{_≡_, ap, _∙_}
-use Prim.Native.Nat.{ℕ, _≤_, _-_, _+_, _<_}
+use mathlib.Core.Path.{ap, _∙_}
+use Prim.Native.Nat.{_≤_, _-_, _+_}
 use native.Mathlib.Omega.{arith}
 use borrow.Author.Needs.{needs}
-use lib.ListN.{length, getD, length-set}
+use lib.ListN.{getD, length-set}
 use Rattle.polynomials.specs.Field.{add, mul}
 use Rattle.ring.specs.Transform.{back, joined}
 use Rattle.ring.proofs.Halves.{Passed, start, within, more, finish}

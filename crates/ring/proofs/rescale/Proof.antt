@@ -4,7 +4,7 @@ use mathlib.Core.List.{List, map}
 use Prim.Native.Nat.{ℕ, _≤_, _-_}
 use native.Mathlib.Omega.{arith}
 use borrow.Author.Needs.{needs}
-use lib.ListN.{length, getD, length-map, List·getD-map}
+use lib.ListN.{length, length-map, List·getD-map}
 use Rattle.laws.proofs.Loops.{Rewritten, start, next-is, more, finish}
 use Rattle.polynomials.specs.Field.{mul}
 use Rattle.ring.proofs.rescale.Statement.{statement}

@@ -1,7 +1,7 @@
 -- `ring::row` meets its contract. The loop's invariant: of the first 8 entries, i are rewritten. Assumes nothing.
 use mathlib.Core.Path.{_≡_, refl, ap, sym, _∙_}
 use mathlib.Core.List.{List, [], _∷_}
-use Prim.Native.Nat.{ℕ, zero, suc, _≤_, _-_, _+_, _*_, _%_, _<_}
+use Prim.Native.Nat.{ℕ, zero, suc, _≤_, _-_, _+_, _*_, _%_}
 use native.Mathlib.Nat.{not-suc-le-zero}
 use native.Mathlib.Omega.{arith}
 use lib.ListN.{length, getD, take, drop, set, length-set}
@@ -9,13 +9,10 @@ use lib.Seq.{length-take-le, getD-take, take-set-lt}
 use Rattle.laws.specs.Lists.{zipWith}
 use Rattle.laws.proofs.Entries.{length-zipWith, getD-zipWith}
 use Rattle.laws.proofs.Loops.{Rewritten, start, next-is, more, finish}
-use Rattle.sets.specs.Numbers.{modulus}
 use Rattle.ring.specs.Transform.{Within}
 use Rattle.ring.proofs.Estimates.{residues-product}
 use Rattle.ring.proofs.row.Statement.{statement}
 use Rattle.ring.proofs.row.Tie as tie
-use Rattle.ring.proofs.row.Reads as reads
-use Rattle.ring.proofs.row.Lts as lts
 
 -- what is written
 abbrev added : ℕ → List ℕ → List ℕ → List ℕ

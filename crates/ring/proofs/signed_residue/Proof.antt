@@ -1,6 +1,6 @@
 -- `ring::signed_residue` meets its contract: z + 3q is not negative. Assumes nothing.
-use mathlib.Core.Path.{_≡_, ap, sym, _∙_}
-use Prim.Native.Nat.{ℕ, _+_, _≤_, _%_}
+use mathlib.Core.Path.{_≡_, ap, _∙_}
+use Prim.Native.Nat.{ℕ, _≤_, _%_}
 use native.Mathlib.Omega.{arith}
 use borrow.Author.Needs.{needs}
 use lib.Dec.{T, lit<}
@@ -11,7 +11,7 @@ use mir.Val.{toZ, ofZ}
 use Rattle.laws.specs.Integers.{residue}
 use Rattle.laws.proofs.Bounds.{abs-mag, abs-add}
 use Rattle.laws.proofs.Congruence.{cong-multiple, residue-same}
-use Rattle.laws.proofs.Linear.{above, under, size, sum, nonneg}
+use Rattle.laws.proofs.Linear.{size, sum, nonneg}
 use Rattle.laws.proofs.Machine.{Reads, fits, given, held, cast-ok, cast-is, add-ok, add-is, unsigned-ok, unsigned-is}
 use Rattle.sets.specs.Numbers.{modulus}
 use Rattle.ring.proofs.signed_residue.Statement.{statement}

@@ -1,17 +1,15 @@
 -- `ring::split` meets its contract. The loop's invariant: i entries of each half are rewritten. Assumes nothing.
-use mathlib.Core.Path.{_≡_, ap, _∙_}
-use Prim.Native.Nat.{ℕ, _≤_, _-_, _+_, _<_}
+use mathlib.Core.Path.{ap, _∙_}
+use Prim.Native.Nat.{_≤_, _-_, _+_, _<_}
 use native.Mathlib.Omega.{arith}
 use borrow.Author.Needs.{needs}
-use lib.ListN.{length, getD, length-set}
-use Rattle.polynomials.specs.Field.{add, mul}
+use lib.ListN.{getD, length-set}
+use Rattle.polynomials.specs.Field.{add}
 use Rattle.ring.specs.Transform.{sub, plus, minus, low, high}
 use Rattle.ring.proofs.Field.{mul-le}
 use Rattle.ring.proofs.Halves.{Passed, start, within, more, finish}
 use Rattle.ring.proofs.split.Statement.{statement}
 use Rattle.ring.proofs.split.Tie as tie
-use Rattle.ring.proofs.split.Reads as reads
-use Rattle.ring.proofs.split.Lts as lts
 
 abbrev Inv-loop : tie.InvT-loop
 Inv-loop s₀ h w r i₀ s i = (i ≤ h) × Passed (plus w) (minus w) h s₀ i s
