@@ -17,6 +17,11 @@ module _ {ℓ} {A : Type ℓ} where
   pub pass : (r s : Bool) (x refusal next : A) → r ≡ s → not r ≡ false → x ≡ next → x ≡ must s refusal next
   pass r s x refusal next e t k = rw (sym e ∙ not-false r t) k
 
+  -- a chain that comes to an answer which is not the test's refusal passed the test, and went on to it
+  pub through : (test : Bool) (refusal next x : A) → (test ≡ false → refusal ≡ x → ⊥) → must test refusal next ≡ x → (test ≡ true) × (next ≡ x)
+  through true refusal next x other e = (refl, e)
+  through false refusal next x other e = absurd (other refl e)
+
 -- a statement about what a chain answers, from both ways of its first test
 pub must-cases {ℓ} : {A : Type ℓ} (P : A → Type 0) (test : Bool) (refusal next : A) → (test ≡ true → P next) → (test ≡ false → P refusal) → P (must test refusal next)
 must-cases P true refusal next p q = p refl

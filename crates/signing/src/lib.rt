@@ -1,1 +1,362 @@
-// The response.
+// The response: sign choices, draw, length rule (01, "Response", "The draw", "Length rule").
+ghost use mathlib.Core.Path.{_≡_};
+ghost use mathlib.Core.Bool.{true, not, _&&_};
+ghost use Prim.Native.Nat.{ℕ, _+_, _*_, _^_, _<_, _≤_};
+ghost use lib.Dec.{eqb};
+ghost use lib.IntN.{pos, natAbs};
+ghost use lib.ListN.{length, getD};
+ghost use Rattle.laws.specs.Lists.{every, zipWith};
+ghost use Rattle.sets.specs.Numbers.{dimension, places, kappaOf, keyLimitOf};
+ghost use Rattle.ring.specs.Transform.{spectrumOf};
+ghost use Rattle.vectors.specs.Vectors.{within, squares, sizes};
+ghost use Rattle.vectors.specs.Places.{properList};
+ghost use Rattle.keys.specs.Key.{properKey, sized};
+ghost use Rattle.commitment.specs.Commitment.{isReduced, areMasks, sums};
+ghost use Rattle.choices.specs.Choices.{pair, signed};
+ghost use Rattle.signing.specs.Response.{responded, firstTrial, secondTrial, daggers, given, drawn, signedWith, tested, responseFor, response};
+use answers::Outcome;
+use draw::Ending;
+use sets::Asked;
+use sets::Set;
+
+// The outcome, and the count of words taken.
+pub struct Response {
+    pub outcome: Outcome,
+    pub words: usize,
+}
+
+// The response: refusals 1, 2, 3, 4, 5, 7, 6, then 8 or 9 as the walk ends, then 10, 11.
+pub fn respond(
+    set: u32,
+    f: &[i8],
+    g: &[i8],
+    a: &[u16],
+    y1: &[i16],
+    y2: &[i16],
+    list: &[u16],
+    sign: bool,
+    thresholds: &[u64],
+    words: &[u64],
+    z1: &mut [i16],
+    z2: &mut [i8],
+) -> Response
+    ensures { λ r. ⌜ responded (r .outcome) (r .words) (now (z1 .exit)) (now (z2 .exit))
+        ≡ response set (now (f .entry)) (now (g .entry)) (now (a .entry)) (now (y1 .entry)) (now (y2 .entry)) (now (list .entry)) sign
+        (now (thresholds .entry)) (now (words .entry)) (now (z1 .entry)) (now (z2 .entry)) ⌝ }
+{
+    match Set::asked(set) {
+        Asked::Unknown => refusal(Outcome::UnknownSet),
+        Asked::Known(s) => respond_for(s, f, g, a, y1, y2, list, sign, thresholds, words, z1, z2),
+    }
+}
+
+// A refusal before the draw has taken no word.
+fn refusal(outcome: Outcome) -> Response
+    ensures { λ r. ⌜ (r .outcome ≡ outcome) × (r .words ≡ 0) ⌝ }
+{
+    Response { outcome, words: 0 }
+}
+
+fn respond_for(
+    s: Set,
+    f: &[i8],
+    g: &[i8],
+    a: &[u16],
+    y1: &[i16],
+    y2: &[i16],
+    list: &[u16],
+    sign: bool,
+    thresholds: &[u64],
+    words: &[u64],
+    z1: &mut [i16],
+    z2: &mut [i8],
+) -> Response
+    ensures { λ r. ⌜ responded (r .outcome) (r .words) (now (z1 .exit)) (now (z2 .exit))
+        ≡ responseFor s (now (f .entry)) (now (g .entry)) (now (a .entry)) (now (y1 .entry)) (now (y2 .entry)) (now (list .entry)) sign
+        (now (thresholds .entry)) (now (words .entry)) (now (z1 .entry)) (now (z2 .entry)) ⌝ }
+{
+    if !all_sized(
+        f.len(),
+        g.len(),
+        a.len(),
+        y1.len(),
+        y2.len(),
+        z1.len(),
+        z2.len(),
+        thresholds.len(),
+    ) {
+        return refusal(Outcome::WrongLength);
+    }
+    test(s, f, g, a, y1, y2, list, sign, thresholds, words, z1, z2)
+}
+
+fn all_sized(
+    f: usize,
+    g: usize,
+    a: usize,
+    y1: usize,
+    y2: usize,
+    z1: usize,
+    z2: usize,
+    thresholds: usize,
+) -> bool
+    ensures { λ r. ⌜ r ≡ eqb f dimension && (eqb g dimension && (eqb a dimension && (eqb y1 dimension && (eqb y2 dimension && (eqb z1 dimension && (eqb z2 dimension && eqb thresholds places)))))) ⌝ }
+{
+    if f != Set::DIMENSION {
+        return false;
+    }
+    if g != Set::DIMENSION {
+        return false;
+    }
+    if a != Set::DIMENSION {
+        return false;
+    }
+    if y1 != Set::DIMENSION {
+        return false;
+    }
+    if y2 != Set::DIMENSION {
+        return false;
+    }
+    if z1 != Set::DIMENSION {
+        return false;
+    }
+    if z2 != Set::DIMENSION {
+        return false;
+    }
+    thresholds == Set::PLACES
+}
+
+// Refusals 3, 4, 5; s1 and s2 are made here.
+fn test(
+    s: Set,
+    f: &[i8],
+    g: &[i8],
+    a: &[u16],
+    y1: &[i16],
+    y2: &[i16],
+    list: &[u16],
+    sign: bool,
+    thresholds: &[u64],
+    words: &[u64],
+    z1: &mut [i16],
+    z2: &mut [i8],
+) -> Response
+    requires { ⌜ (length (now f) ≡ dimension) × (length (now g) ≡ dimension) × (length (now a) ≡ dimension) × (length (now thresholds) ≡ places) ⌝ }
+    requires { ⌜ (length (now y1) ≡ dimension) × (length (now y2) ≡ dimension) × (length (now z1) ≡ dimension) × (length (now z2) ≡ dimension) ⌝ }
+    ensures { λ r. ⌜ responded (r .outcome) (r .words) (now (z1 .exit)) (now (z2 .exit))
+        ≡ tested s (now (f .entry)) (now (g .entry)) (now (a .entry)) (now (y1 .entry)) (now (y2 .entry)) (now (list .entry)) sign
+        (now (thresholds .entry)) (now (words .entry)) (now (z1 .entry)) (now (z2 .entry)) ⌝ }
+{
+    let mut s1 = [0i16; Set::DIMENSION];
+    let mut s2 = [0i16; Set::DIMENSION];
+    vectors::widen(f, &mut s1);
+    vectors::widen(g, &mut s2);
+    if !keys::in_range(&s1, &s2, a) {
+        return refusal(Outcome::CoefficientOutside);
+    }
+    if !commitment::are_masks(y1, y2) {
+        return refusal(Outcome::MaskOutside);
+    }
+    if !vectors::is_proper(s, list) {
+        return refusal(Outcome::ImproperList);
+    }
+    keys::make_second(&mut s2);
+    sign_with(
+        s,
+        &s1,
+        &s2,
+        a,
+        y1,
+        y2,
+        list,
+        sign,
+        thresholds,
+        words,
+        z1,
+        z2,
+    )
+}
+
+// Refusals 7, 6, and the sign choices. The key is transformed once, for its relation and for u.
+fn sign_with(
+    s: Set,
+    s1: &[i16],
+    s2: &[i16],
+    a: &[u16],
+    y1: &[i16],
+    y2: &[i16],
+    list: &[u16],
+    sign: bool,
+    thresholds: &[u64],
+    words: &[u64],
+    z1: &mut [i16],
+    z2: &mut [i8],
+) -> Response
+    requires { ⌜ (length (now s1) ≡ dimension) × (length (now s2) ≡ dimension) × (length (now a) ≡ dimension) × (length (now thresholds) ≡ places) ⌝ }
+    requires { ⌜ (length (now y1) ≡ dimension) × (length (now y2) ≡ dimension) × (length (now z1) ≡ dimension) × (length (now z2) ≡ dimension) ⌝ }
+    requires { ⌜ (every (within 5) (now s1) ≡ true) × (every (within 5) (now s2) ≡ true) × (areMasks (now y1) (now y2) ≡ true) × (properList s (now list) ≡ true) ⌝ }
+    ensures { λ r. ⌜ responded (r .outcome) (r .words) (now (z1 .exit)) (now (z2 .exit))
+        ≡ signedWith s (now (s1 .entry)) (now (s2 .entry)) (now (a .entry)) (now (y1 .entry)) (now (y2 .entry)) (now (list .entry)) sign
+        (now (thresholds .entry)) (now (words .entry)) (now (z1 .entry)) (now (z2 .entry)) ⌝ }
+{
+    let mut spectrum = [0u16; Set::DIMENSION];
+    ring::transform_key(a, &mut spectrum);
+    let o = keys::proper_key(s, a, &spectrum, s1, s2);
+    if !o.is_done() {
+        return refusal(o);
+    }
+    let mut v1 = [0i16; Set::DIMENSION];
+    let mut v2 = [0i16; Set::DIMENSION];
+    choices::choose(s1, s2, list, &mut v1, &mut v2);
+    draw_for(
+        s,
+        a,
+        &spectrum,
+        y1,
+        y2,
+        &v1,
+        &v2,
+        sign,
+        thresholds,
+        words,
+        z1,
+        z2,
+    )
+}
+
+// z = y + v or y - v, and the walk: refusals 8 or 9.
+fn draw_for(
+    s: Set,
+    a: &[u16],
+    spectrum: &[u16],
+    y1: &[i16],
+    y2: &[i16],
+    v1: &[i16],
+    v2: &[i16],
+    sign: bool,
+    thresholds: &[u64],
+    words: &[u64],
+    z1: &mut [i16],
+    z2: &mut [i8],
+) -> Response
+    requires { ⌜ (length (now v1) ≡ dimension) × (length (now v2) ≡ dimension) × (length (now a) ≡ dimension) × (length (now thresholds) ≡ places) ⌝ }
+    requires { ⌜ (length (now y1) ≡ dimension) × (length (now y2) ≡ dimension) × (length (now z1) ≡ dimension) × (length (now z2) ≡ dimension) ⌝ }
+    requires { ⌜ (now spectrum ≡ spectrumOf (now a)) × (areMasks (now y1) (now y2) ≡ true) × (squares (now v1) + squares (now v2) ≤ kappaOf s * keyLimitOf s) ⌝ }
+    requires { ⌜ ((k : ℕ) → natAbs (getD (now v1) k (pos 0)) ≤ 5 * kappaOf s) × ((k : ℕ) → natAbs (getD (now v2) k (pos 0)) ≤ 5 * kappaOf s) ⌝ }
+    ensures { λ r. ⌜ responded (r .outcome) (r .words) (now (z1 .exit)) (now (z2 .exit))
+        ≡ drawn s (now (a .entry)) (pair (now (y1 .entry)) (now (y2 .entry)))
+        (pair (zipWith (signed (not sign)) (now (y1 .entry)) (now (v1 .entry))) (zipWith (signed (not sign)) (now (y2 .entry)) (now (v2 .entry))))
+        (pair (now (v1 .entry)) (now (v2 .entry))) (now (thresholds .entry)) (now (words .entry)) (now (z1 .entry)) (now (z2 .entry)) ⌝ }
+{
+    let mut w1 = [0i16; Set::DIMENSION];
+    let mut w2 = [0i16; Set::DIMENSION];
+    mask(y1, v1, sign, &mut w1);
+    mask(y2, v2, sign, &mut w2);
+    let first = first_trial(s, v1, v2);
+    let second = second_trial(&w1, &w2, v1, v2);
+    match draw::walk(first, second, words, thresholds) {
+        Ending::OutOfWords => Response {
+            outcome: Outcome::WordMissing,
+            words: words.len(),
+        },
+        Ending::Rejected(taken) => Response {
+            outcome: Outcome::Rejected,
+            words: taken,
+        },
+        Ending::Accepted(taken) => give(s, a, spectrum, y1, y2, &w1, &w2, taken, z1, z2),
+    }
+}
+
+// y + v, or y - v where the sign bit is set.
+fn mask(y: &[i16], v: &[i16], sign: bool, z: &mut [i16])
+    requires { ⌜ (length (now y) ≡ dimension) × (length (now v) ≡ dimension) × (length (now z) ≡ dimension) ⌝ }
+    requires { ⌜ ((k : ℕ) → natAbs (getD (now y) k (pos 0)) + natAbs (getD (now v) k (pos 0)) < 32768) ⌝ }
+    ensures { λ _. ⌜ now (z .exit) ≡ zipWith (signed (not sign)) (now (y .entry)) (now (v .entry)) ⌝ }
+{
+    vectors::copy(z, y);
+    if sign {
+        vectors::subtract_from(z, v);
+    } else {
+        vectors::add_to(z, v);
+    }
+}
+
+// kappa K minus the squared length of v, which is never negative.
+fn first_trial(s: Set, v1: &[i16], v2: &[i16]) -> u32
+    requires { ⌜ (length (now v1) ≡ dimension) × (length (now v2) ≡ dimension) × (squares (now v1) + squares (now v2) ≤ kappaOf s * keyLimitOf s) ⌝ }
+    ensures { λ r. ⌜ r ≡ firstTrial s (pair (now (v1 .entry)) (now (v2 .entry))) ⌝ }
+{
+    let whole = (s.kappa() as u64) * s.key_limit();
+    (whole - (vectors::squared_length(v1) + vectors::squared_length(v2))) as u32
+}
+
+// Twice the absolute value of the inner product of z and v.
+fn second_trial(z1: &[i16], z2: &[i16], v1: &[i16], v2: &[i16]) -> u32
+    requires { ⌜ (length (now z1) ≡ dimension) × (length (now z2) ≡ dimension) × (length (now v1) ≡ dimension) × (length (now v2) ≡ dimension) ⌝ }
+    requires { ⌜ sizes (now z1) (now v1) + sizes (now z2) (now v2) < 2 ^ 30 ⌝ }
+    ensures { λ r. ⌜ r ≡ secondTrial (pair (now (z1 .entry)) (now (z2 .entry))) (pair (now (v1 .entry)) (now (v2 .entry))) ⌝ }
+{
+    let inner = vectors::inner_product(z1, v1) + vectors::inner_product(z2, v2);
+    if inner < 0 {
+        2 * ((0 - inner) as u32)
+    } else {
+        2 * (inner as u32)
+    }
+}
+
+// u, z2 dagger and the length rule: refusals 10, 11.
+fn give(
+    s: Set,
+    a: &[u16],
+    spectrum: &[u16],
+    y1: &[i16],
+    y2: &[i16],
+    w1: &[i16],
+    w2: &[i16],
+    taken: usize,
+    z1: &mut [i16],
+    z2: &mut [i8],
+) -> Response
+    requires { ⌜ (length (now a) ≡ dimension) × (length (now w1) ≡ dimension) × (length (now w2) ≡ dimension) × (now spectrum ≡ spectrumOf (now a)) ⌝ }
+    requires { ⌜ (length (now y1) ≡ dimension) × (length (now y2) ≡ dimension) × (length (now z1) ≡ dimension) × (length (now z2) ≡ dimension) ⌝ }
+    ensures { λ r. ⌜ responded (r .outcome) (r .words) (now (z1 .exit)) (now (z2 .exit))
+        ≡ given s taken (now (w1 .entry)) (daggers s (sums (now (a .entry)) (now (y1 .entry)) (now (y2 .entry))) (now (w2 .entry))) (now (z1 .entry)) (now (z2 .entry)) ⌝ }
+{
+    let mut t = [0u16; Set::DIMENSION];
+    ring::multiply(a, spectrum, y1, &mut t);
+    let mut u = [0u32; Set::DIMENSION];
+    commitment::add_sums(&t, y2, &mut u);
+    let mut rounded = [0i8; Set::DIMENSION];
+    make_daggers(s, &u, w2, &mut rounded);
+    let o = limits::length_rule(s, w1, &rounded);
+    if !o.is_done() {
+        return Response {
+            outcome: o,
+            words: taken,
+        };
+    }
+    vectors::copy(z1, w1);
+    copy_bytes(z2, &rounded);
+    Response {
+        outcome: Outcome::Done,
+        words: taken,
+    }
+}
+
+fn make_daggers(s: Set, u: &[u32], z: &[i16], out: &mut [i8])
+    requires { ⌜ (length (now u) ≡ dimension) × (length (now z) ≡ dimension) × (length (now out) ≡ dimension) × isReduced (now u) ⌝ }
+    ensures { λ _. ⌜ now (out .exit) ≡ daggers s (now (u .entry)) (now (z .entry)) ⌝ }
+{
+    for i in 0..Set::DIMENSION {
+        out[i] = rounding::dagger(s, u[i], z[i]);
+    }
+}
+
+fn copy_bytes(out: &mut [i8], x: &[i8])
+    requires { ⌜ (length (now out) ≡ dimension) × (length (now x) ≡ dimension) ⌝ }
+    ensures { λ _. ⌜ now (out .exit) ≡ now (x .entry) ⌝ }
+{
+    for i in 0..Set::DIMENSION {
+        out[i] = x[i];
+    }
+}

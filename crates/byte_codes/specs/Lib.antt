@@ -1,0 +1,2 @@
+-- 01, "The record": numbers as bytes.
+pub mod Bytes

@@ -1,0 +1,31 @@
+-- "That any two results it admits coincide is proved" (01, "What a contract here has to say"): for each call, over its contract's own text, as the check
+-- reads it. `Post κs a r s` says what the contract admits of arguments `a`: the answer `r`, and `s` for what is lent, when the call is over. Assumes nothing.
+use mathlib.Core.Path.{_≡_, sym, _∙_}
+use mathlib.Core.List.{List}
+use Prim.Native.Nat.{ℕ}
+use contract.Lifetimes.{Lfts}
+use denote.Ref.{now}
+use Rattle.answers.specs.declared.Outcome.{Outcome}
+use Rattle.answers.specs.Outcomes.{Filled, filled}
+use Rattle.keys.proofs.key_test.Reads as keyTest
+use Rattle.commitment.proofs.commitment.Reads as commitment
+use Rattle.checking.proofs.rebuild.Reads as rebuild
+use Rattle.checking.proofs.comparison.Reads as comparison
+
+-- one equation fixes the outcome and the vector
+filled-parts : {o o′ : Outcome} {c c′ : List ℕ} (answer : Filled) → filled o c ≡ answer → filled o′ c′ ≡ answer → (o ≡ o′) × (c ≡ c′)
+filled-parts answer p q = (cc, cc)
+
+pub key-test-determined : (κs : Lfts 3) (a : _) (r r′ : _) (s s′ : _) → keyTest.Post κs a r s → keyTest.Post κs a r′ s′ → r ≡ r′
+key-test-determined κs a r r′ s s′ p q = p ∙ sym q
+
+pub commitment-determined : (κs : Lfts 4) (a : _) (r r′ : _) (s s′ : _) → commitment.Post κs a r s → commitment.Post κs a r′ s′
+    → (r ≡ r′) × (now (s .1 .1 .1 .1 .0) ≡ now (s′ .1 .1 .1 .1 .0))
+commitment-determined κs a r r′ s s′ p q = filled-parts _ p q
+
+pub rebuild-determined : (κs : Lfts 5) (a : _) (r r′ : _) (s s′ : _) → rebuild.Post κs a r s → rebuild.Post κs a r′ s′
+    → (r ≡ r′) × (now (s .1 .1 .1 .1 .1 .0) ≡ now (s′ .1 .1 .1 .1 .1 .0))
+rebuild-determined κs a r r′ s s′ p q = filled-parts _ p q
+
+pub comparison-determined : (κs : Lfts 2) (a : _) (r r′ : _) (s s′ : _) → comparison.Post κs a r s → comparison.Post κs a r′ s′ → r ≡ r′
+comparison-determined κs a r r′ s s′ p q = p ∙ sym q

@@ -1,0 +1,3 @@
+-- What holds across the calls. `Demands`: the statements of demands 1 and 3. `Published`: the algorithms of document 004 beside the definitions (demand 2).
+pub mod Demands
+pub mod Published

@@ -1,0 +1,84 @@
+use mathlib.Core.Path.{_≡_, refl}
+use mathlib.Core.List.{List}
+use Prim.Native.Nat.{ℕ}
+use native.Mathlib.Omega.{arith}
+use Rattle.sets.specs.declared.Set.{Set}
+use Rattle.record_forms.specs.declared.Header.{Header}
+use Rattle.record_forms.specs.Headers.{fieldsAfter, headerIn}
+use Rattle.record_forms.proofs.Ways.{calls}
+use borrow.Author.Needs.{needs}
+use Rattle.record_forms.proofs.header_in.Statement.{statement}
+use Rattle.record_forms.proofs.header_in.Tie as tie
+
+-- what the fields say, at the header that is known
+fields-at : (r : Header) (s : Set) (header header′ rec : List ℕ) → r ≡ fieldsAfter s header rec → header ≡ header′ → r ≡ fieldsAfter s header′ rec
+fields-at r s header header′ rec e f = cc
+
+cast-t7 : tie.Need-cast-t7
+cast-t7 c = search needs
+
+returns : tie.Need-returns
+unfolding headerIn
+returns c = search calls
+
+slice-aggregate-agrees : tie.Need-slice-aggregate-agrees
+slice-aggregate-agrees c = search needs
+
+agrees-requires : tie.Need-agrees-requires
+agrees-requires c κs = search needs
+
+returns-2 : tie.Need-returns-2
+unfolding headerIn
+returns-2 c = search calls
+
+shared-slice-read-named : tie.Need-shared-slice-read-named
+shared-slice-read-named c = search needs
+
+cast-named : tie.Need-cast-named
+cast-named c = omega (arith, c .shared-slice-known2 .given 4)
+
+named-requires : tie.Need-named-requires
+named-requires c κs = search needs
+
+enum-told : tie.Need-enum-told
+enum-told c = search needs
+
+enum-known-s : tie.Need-enum-known-s
+enum-known-s c = search needs
+
+header-of-requires : tie.Need-header-of-requires
+header-of-requires c κs = search needs
+
+slice-aggregate-fields-after : tie.Need-slice-aggregate-fields-after
+slice-aggregate-fields-after c = search needs
+
+fields-after-requires : tie.Need-fields-after-requires
+fields-after-requires c κs = search needs
+
+returns-3 : tie.Need-returns-3
+unfolding headerIn
+returns-3 c = search calls
+
+returns-4 : tie.Need-returns-4
+unfolding headerIn
+returns-4 c = search (calls, fields-at)
+
+pub header-in-spec : {M : Type 1} → statement M
+header-in-spec =
+    tie.close
+    (tie.spec
+    cast-t7
+    returns
+    slice-aggregate-agrees
+    agrees-requires
+    returns-2
+    shared-slice-read-named
+    cast-named
+    named-requires
+    enum-told
+    enum-known-s
+    header-of-requires
+    slice-aggregate-fields-after
+    fields-after-requires
+    returns-3
+    returns-4)

@@ -1,0 +1,212 @@
+use mathlib.Core.Path.{_≡_, refl, ap, _∙_}
+use mathlib.Core.List.{List, [], _∷_}
+use Prim.Native.Nat.{ℕ, _+_, _/_, _%_, _<_}
+use native.Mathlib.Omega.{arith}
+use lib.Dec.{lit<}
+use lib.ListN.{set}
+use mir.Syntax.{w8, w16}
+use mir.Val.{Fits}
+use Rattle.sets.specs.declared.Set.{Set}
+use Rattle.sets.specs.declared.Set.the-variants.{I, II, III, IV}
+use Rattle.sets.specs.Numbers.{kappaOf, totalOf, numberOf}
+use Rattle.sets.proofs.Alike.{kappa-within, total-small}
+use Rattle.byte_codes.specs.Bytes.{bytesOf}
+use Rattle.record_forms.specs.Headers.{headerOf}
+use borrow.Author.Needs.{needs}
+use Rattle.record_forms.proofs.header_of.Statement.{statement}
+use Rattle.record_forms.proofs.header_of.Tie as tie
+
+number-small : (s : Set) → numberOf s < 256
+number-small I = lit< tt
+number-small II = lit< tt
+number-small III = lit< tt
+number-small IV = lit< tt
+
+-- what the casts ask
+number-fits : (n : ℕ) (s : Set) → n ≡ numberOf s → Fits w8 n
+number-fits n s e = omega (arith, number-small s)
+
+kappa-fits : (n : ℕ) (s : Set) → n ≡ kappaOf s → Fits w16 n
+kappa-fits n s e = omega (arith, kappa-within s)
+
+total-fits : (n : ℕ) (s : Set) → n ≡ totalOf s → Fits w16 n
+total-fits n s e = omega (arith, total-small s)
+
+abbrev put : ℕ → ℕ → List ℕ → List ℕ
+put at x l = set (set l at (x % 256)) (at + 1) (x / 256 % 256)
+
+-- the array once its letters, its set and its seven numbers are written
+abbrev built : ℕ → ℕ → ℕ → List ℕ
+built number kappa total =
+    put 18 total (put 16 1560 (put 14 kappa (put 12 1048 (put 10 512 (put 8 24 (put 6 512
+    (66 ∷ 76 ∷ 66 ∷ 49 ∷ number ∷ 0 ∷ 0 ∷ 0 ∷ 0 ∷ 0 ∷ 0 ∷ 0 ∷ 0 ∷ 0 ∷ 0 ∷ 0 ∷ 0 ∷ 0 ∷ 0 ∷ 0 ∷ 0 ∷ 0 ∷ 0 ∷ 0 ∷ [])))))))
+
+built-is : (s : Set) → built (numberOf s) (kappaOf s) (totalOf s) ≡ headerOf s
+unfolding headerOf bytesOf
+built-is I = refl
+built-is II = refl
+built-is III = refl
+built-is IV = refl
+
+built-at : (s : Set) (number kappa total : ℕ) → number ≡ numberOf s → kappa ≡ kappaOf s → total ≡ totalOf s → built number kappa total ≡ headerOf s
+built-at s number kappa total e f g = rw (e, f, g) (built-is s)
+
+array-read-header : tie.Need-array-read-header
+array-read-header c = search needs
+
+array-write-header : tie.Need-array-write-header
+array-write-header c = search needs
+
+array-read-header-2 : tie.Need-array-read-header-2
+array-read-header-2 c = search needs
+
+array-write-header-2 : tie.Need-array-write-header-2
+array-write-header-2 c = search needs
+
+array-read-header-3 : tie.Need-array-read-header-3
+array-read-header-3 c = search needs
+
+array-write-header-3 : tie.Need-array-write-header-3
+array-write-header-3 c = search needs
+
+array-read-header-4 : tie.Need-array-read-header-4
+array-read-header-4 c = search needs
+
+array-write-header-4 : tie.Need-array-write-header-4
+array-write-header-4 c = search needs
+
+number-requires : tie.Need-number-requires
+number-requires c κs = search needs
+
+cast-header : tie.Need-cast-header
+cast-header c = search (needs, number-fits)
+
+array-write-header-5 : tie.Need-array-write-header-5
+array-write-header-5 c = search needs
+
+slice-aggregate-put-number : tie.Need-slice-aggregate-put-number
+slice-aggregate-put-number c = search needs
+
+cast-put-number : tie.Need-cast-put-number
+cast-put-number c = search needs
+
+put-number-requires : tie.Need-put-number-requires
+put-number-requires c κs = search needs
+
+slice-aggregate-put-number-2 : tie.Need-slice-aggregate-put-number-2
+slice-aggregate-put-number-2 c = search needs
+
+cast-put-number-2 : tie.Need-cast-put-number-2
+cast-put-number-2 c = search needs
+
+put-number-requires-2 : tie.Need-put-number-requires-2
+put-number-requires-2 c κs = search needs
+
+slice-aggregate-put-number-3 : tie.Need-slice-aggregate-put-number-3
+slice-aggregate-put-number-3 c = search needs
+
+cast-put-number-3 : tie.Need-cast-put-number-3
+cast-put-number-3 c = search needs
+
+put-number-requires-3 : tie.Need-put-number-requires-3
+put-number-requires-3 c κs = search needs
+
+slice-aggregate-put-number-4 : tie.Need-slice-aggregate-put-number-4
+slice-aggregate-put-number-4 c = search needs
+
+cast-put-number-4 : tie.Need-cast-put-number-4
+cast-put-number-4 c = search needs
+
+put-number-requires-4 : tie.Need-put-number-requires-4
+put-number-requires-4 c κs = search needs
+
+slice-aggregate-put-number-5 : tie.Need-slice-aggregate-put-number-5
+slice-aggregate-put-number-5 c = search needs
+
+kappa-requires : tie.Need-kappa-requires
+kappa-requires c κs = search needs
+
+cast-put-number-5 : tie.Need-cast-put-number-5
+cast-put-number-5 c = search (needs, kappa-fits)
+
+put-number-requires-5 : tie.Need-put-number-requires-5
+put-number-requires-5 c κs = search needs
+
+slice-aggregate-put-number-6 : tie.Need-slice-aggregate-put-number-6
+slice-aggregate-put-number-6 c = search needs
+
+cast-put-number-6 : tie.Need-cast-put-number-6
+cast-put-number-6 c = search needs
+
+put-number-requires-6 : tie.Need-put-number-requires-6
+put-number-requires-6 c κs = search needs
+
+slice-aggregate-put-number-7 : tie.Need-slice-aggregate-put-number-7
+slice-aggregate-put-number-7 c = search needs
+
+total-requires : tie.Need-total-requires
+total-requires c κs = search needs
+
+cast-put-number-7 : tie.Need-cast-put-number-7
+cast-put-number-7 c = search (needs, total-fits)
+
+put-number-requires-7 : tie.Need-put-number-requires-7
+put-number-requires-7 c κs = search needs
+
+returns : tie.Need-returns
+returns c =
+    let p7 = c .before in
+    let p6 = p7 .before .before .before .before in
+    let p5 = p6 .before .before .before in
+    let p4 = p5 .before .before .before .before in
+    let p3 = p4 .before .before .before in
+    let p2 = p3 .before .before .before in
+    let p1 = p2 .before .before .before in
+    p7 .put-number7 .ensures
+    ∙ ap (put 18 (p7 .before .total .result)) (p6 .put-number6 .ensures
+    ∙ ap (put 16 1560) (p5 .put-number5 .ensures
+    ∙ ap (put 14 (p5 .before .kappa .result)) (p4 .put-number4 .ensures
+    ∙ ap (put 12 1048) (p3 .put-number3 .ensures
+    ∙ ap (put 10 512) (p2 .put-number2 .ensures
+    ∙ ap (put 8 24) (p1 .put-number .ensures))))))
+    ∙ built-at (p1 .before .before .before .args .s) _ _ _ (p1 .before .before .number .ensures) (p5 .before .kappa .ensures) (p7 .before .total .ensures)
+
+pub header-of-spec : {M : Type 1} → statement M
+header-of-spec =
+    tie.close
+    (tie.spec
+    array-read-header
+    array-write-header
+    array-read-header-2
+    array-write-header-2
+    array-read-header-3
+    array-write-header-3
+    array-read-header-4
+    array-write-header-4
+    number-requires
+    cast-header
+    array-write-header-5
+    slice-aggregate-put-number
+    cast-put-number
+    put-number-requires
+    slice-aggregate-put-number-2
+    cast-put-number-2
+    put-number-requires-2
+    slice-aggregate-put-number-3
+    cast-put-number-3
+    put-number-requires-3
+    slice-aggregate-put-number-4
+    cast-put-number-4
+    put-number-requires-4
+    slice-aggregate-put-number-5
+    kappa-requires
+    cast-put-number-5
+    put-number-requires-5
+    slice-aggregate-put-number-6
+    cast-put-number-6
+    put-number-requires-6
+    slice-aggregate-put-number-7
+    total-requires
+    cast-put-number-7
+    put-number-requires-7
+    returns)

@@ -1,0 +1,202 @@
+use mathlib.Core.Path.{_≡_, ap, ap₂, _∙_}
+use mathlib.Core.Bool.{true}
+use mathlib.Core.List.{List}
+use Prim.Native.Nat.{ℕ}
+use borrow.Author.Needs.{needs}
+use lib.Dec.{lit≤}
+use lib.IntN.{ℤ}
+use lib.ListN.{length}
+use Rattle.laws.specs.Lists.{every}
+use Rattle.laws.proofs.Chain.{stop, pass, passed}
+use Rattle.vectors.specs.Vectors.{within}
+use Rattle.vectors.proofs.Ranges.{within-wider}
+use Rattle.keys.specs.Key.{inRange, second}
+use Rattle.keys.proofs.Ranges.{f-small, g-small}
+use Rattle.keys.proofs.Second.{second-within, length-second}
+use Rattle.signing.specs.Response.{tested, signedWith}
+use Rattle.signing.proofs.Ways.{refusal-at}
+use Rattle.signing.proofs.test.Statement.{statement}
+use Rattle.signing.proofs.test.Tie as tie
+
+slice-aggregate-widen : tie.Need-slice-aggregate-widen
+slice-aggregate-widen c = search needs
+
+widen-requires : tie.Need-widen-requires
+widen-requires c κs = search needs
+
+slice-aggregate-widen-2 : tie.Need-slice-aggregate-widen-2
+slice-aggregate-widen-2 c = search needs
+
+widen-requires-2 : tie.Need-widen-requires-2
+widen-requires-2 c κs = search needs
+
+slice-aggregate-in-range : tie.Need-slice-aggregate-in-range
+slice-aggregate-in-range c = search needs
+
+slice-aggregate-in-range-2 : tie.Need-slice-aggregate-in-range-2
+slice-aggregate-in-range-2 c = search needs
+
+in-range-requires : tie.Need-in-range-requires
+in-range-requires c κs = search needs
+
+-- the key was widened and tested
+module _ (c : tie.After-in-range) where
+  abbrev start : tie.Start
+  start = c .before .before .before .before .before .before .before .before .before .before .before .before .before
+
+  abbrev f : List ℤ
+  f = start .args .f .now
+
+  abbrev g : List ℤ
+  g = start .args .g .now
+
+  abbrev a : List ℕ
+  a = start .args .a .now
+
+  abbrev s1 : List ℤ
+  s1 = c .before .before .before .before .before .before .before .widen .last .1 .0
+
+  abbrev s2 : List ℤ
+  s2 = c .before .before .before .before .widen2 .last .1 .0
+
+  is-f : s1 ≡ f
+  is-f = c .before .before .before .before .before .before .before .widen .ensures
+
+  is-g : s2 ≡ g
+  is-g = c .before .before .before .before .widen2 .ensures
+
+  ranged : c .in-range .result ≡ inRange f g a
+  ranged = c .in-range .ensures ∙ ap₂ (λ (x y : List ℤ). inRange x y a) is-f is-g
+
+refusal-requires : tie.Need-refusal-requires
+refusal-requires c κs = search needs
+
+returns : tie.Need-returns
+unfolding tested
+returns c =
+    stop _ _ _ _ _ (ranged (c .before .before)) (c .before .if1 .taken)
+    (refusal-at _ _ _ _ _ (c .refusal .ensures .0) (c .refusal .ensures .1))
+
+are-masks-requires : tie.Need-are-masks-requires
+are-masks-requires c κs = search needs
+
+refusal-requires-2 : tie.Need-refusal-requires-2
+refusal-requires-2 c κs = search needs
+
+returns-2 : tie.Need-returns-2
+unfolding tested
+returns-2 c =
+    let m = c .before .before in
+    pass _ _ _ _ _ (ranged (m .before .before)) (m .before .if1 .left)
+    (stop _ _ _ _ _ (m .are-masks .ensures) (c .before .if2 .taken)
+    (refusal-at _ _ _ _ _ (c .refusal2 .ensures .0) (c .refusal2 .ensures .1)))
+
+is-proper-requires : tie.Need-is-proper-requires
+is-proper-requires c κs = search needs
+
+refusal-requires-3 : tie.Need-refusal-requires-3
+refusal-requires-3 c κs = search needs
+
+returns-3 : tie.Need-returns-3
+unfolding tested
+returns-3 c =
+    let l = c .before .before in
+    let m = l .before .before in
+    pass _ _ _ _ _ (ranged (m .before .before)) (m .before .if1 .left)
+    (pass _ _ _ _ _ (m .are-masks .ensures) (l .before .if2 .left)
+    (stop _ _ _ _ _ (l .is-proper .ensures) (c .before .if3 .taken)
+    (refusal-at _ _ _ _ _ (c .refusal3 .ensures .0) (c .refusal3 .ensures .1))))
+
+slice-aggregate-make-second : tie.Need-slice-aggregate-make-second
+slice-aggregate-make-second c = search needs
+
+-- key, masks and list passed
+module _ (c : tie.Else3) where
+  abbrev at : tie.After-in-range
+  at = c .before .before .before .before .before
+
+  in-range : inRange (f at) (g at) (a at) ≡ true
+  in-range = passed (ranged at) (c .before .before .before .before .if1 .left)
+
+  small : every (within 2) (g at) ≡ true
+  small = g-small (f at) (g at) (a at) in-range
+
+  wider : every (within 5) (f at) ≡ true
+  wider = within-wider 2 5 (f at) (lit≤ tt) (f-small (f at) (g at) (a at) in-range)
+
+make-second-requires : tie.Need-make-second-requires
+make-second-requires c κs =
+    let r = c .before in
+    (ap length (is-g (at r)) ∙ start (at r) .pre .0 .1, ap (every (within 2)) (is-g (at r)) ∙ small r)
+
+slice-aggregate-sign-with : tie.Need-slice-aggregate-sign-with
+slice-aggregate-sign-with c = search needs
+
+slice-aggregate-sign-with-2 : tie.Need-slice-aggregate-sign-with-2
+slice-aggregate-sign-with-2 c = search needs
+
+-- s2 was made
+module _ (c : tie.After-make-second) where
+  abbrev passed-tests : tie.Else3
+  passed-tests = c .before .before
+
+  made : c .make-second .last .0 ≡ second (g (at passed-tests))
+  made = c .make-second .ensures ∙ ap second (is-g (at passed-tests))
+
+sign-with-requires : tie.Need-sign-with-requires
+sign-with-requires c κs =
+    let m = c .before .before .before .before .before in
+    let r = passed-tests m in
+    let p = start (at r) .pre in (
+      (ap length (is-f (at r)) ∙ p .0 .0, ap length (made m) ∙ length-second (g (at r)) ∙ p .0 .1, p .0 .2, p .0 .3),
+      (
+        p .1,
+        (ap (every (within 5)) (is-f (at r)) ∙ wider r, ap (every (within 5)) (made m) ∙ second-within (g (at r)) (small r), passed (r .before .before .before .are-masks .ensures) (r .before .before .if2 .left), passed (r .before .is-proper .ensures) (r .if3 .left)),
+      ),
+    )
+
+same-length : tie.Need-same-length
+same-length c = search needs
+
+same-length-2 : tie.Need-same-length-2
+same-length-2 c = search needs
+
+returns-4 : tie.Need-returns-4
+unfolding tested
+returns-4 c =
+    let m = c .before .before .before .before .before .before .before .before in
+    let r = passed-tests m in
+    let b = start (at r) .args in
+    pass _ _ _ _ _ (ranged (at r)) (r .before .before .before .before .if1 .left)
+    (pass _ _ _ _ _ (r .before .before .before .are-masks .ensures) (r .before .before .if2 .left)
+    (pass _ _ _ _ _ (r .before .is-proper .ensures) (r .if3 .left)
+    (c .before .before .sign-with .ensures
+    ∙ ap₂ (λ (x y : List ℤ). signedWith (b .s) x y (b .a .now) (b .y1 .now) (b .y2 .now) (b .list .now) (b .sign) (b .thresholds .now) (b .words .now) (b .z1 .now) (b .z2 .now)) (is-f (at r)) (made m))))
+
+pub test-spec : {M : Type 1} → statement M
+test-spec =
+    tie.close
+    (tie.spec
+    slice-aggregate-widen
+    widen-requires
+    slice-aggregate-widen-2
+    widen-requires-2
+    slice-aggregate-in-range
+    slice-aggregate-in-range-2
+    in-range-requires
+    refusal-requires
+    returns
+    are-masks-requires
+    refusal-requires-2
+    returns-2
+    is-proper-requires
+    refusal-requires-3
+    returns-3
+    slice-aggregate-make-second
+    make-second-requires
+    slice-aggregate-sign-with
+    slice-aggregate-sign-with-2
+    sign-with-requires
+    same-length
+    same-length-2
+    returns-4)
