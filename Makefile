@@ -1,0 +1,47 @@
+# The project's commands. `make` alone lists them.
+RT ?= rt
+CC ?= cc
+TIME ?= 600
+CASES ?= 3000
+CARGO = cd host && cargo
+RUN = $(CARGO) run --quiet --release --offline --bin
+
+.PHONY: help test check lib demo host-test example bench soak vectors toolchain
+
+help: ## lists the targets
+	@sed -n 's/^\([a-z-]*\):.*## /\1|/p' Makefile | awk -F'|' '{ printf "make %-10s %s\n", $$1, $$2 }'
+
+test: ## proves every crate and tries the library; the last line is 'N passed, 0 failed'
+	@RT="$(RT)" CC="$(CC)" tools/test
+
+check: toolchain ## proves what has changed since the last check
+	$(RT) check
+
+lib: toolchain ## makes target/staticlib/libbursztok.a; its header is include/bursztok.h
+	@$(RT) staticlib bursztok
+
+demo: lib ## signs a sheet on one side and checks it on the other, and shows damaged records refused
+	@$(RUN) bursztok -- demo
+
+host-test: lib ## the tests of host/, and CASES random cases of the library against the second program
+	@$(CARGO) test --quiet --offline
+	@$(RUN) bursztok-compare -- --cases $(CASES)
+
+example: lib ## compiles and runs examples/sheet.c
+	@$(CC) -std=c99 -Wall -Wextra -Werror -pedantic -I include examples/sheet.c target/staticlib/libbursztok.a -o target/sheet
+	@target/sheet
+
+bench: lib ## calls a second beside the second program, and instructions by callgrind
+	@$(RUN) bursztok-bench
+	@$(RUN) bursztok-bench -- --instructions
+	@$(RT) check ring_bench choices_bench
+	@tools/instructions
+
+soak: lib ## random cases of the library against the second program for TIME seconds
+	@$(RUN) bursztok-compare -- --seconds $(TIME)
+
+vectors: ## writes the second program's vectors, which the program replay runs
+	@$(RUN) bursztok-vectors -- ../crates/replay/data/vectors.bin
+
+toolchain:
+	@command -v $(RT) >/dev/null || { echo "rt is not found: the Rattle toolchain is needed (put its bin/ on PATH, or run make RT=its/rt)"; exit 1; }

@@ -1,0 +1,81 @@
+-- Any two results that an export's contract admits of the same arguments coincide: over the contract's own text, as the check reads it. Assumes nothing.
+use mathlib.Core.Path.{_≡_, sym, _∙_}
+use mathlib.Core.List.{List}
+use Prim.Native.Nat.{ℕ}
+use contract.Lifetimes.{Lfts}
+use denote.Ref.{now}
+use lib.IntN.{ℤ}
+use Rattle.bursztok.specs.declared.Answer.{Answer}
+use Rattle.bursztok.specs.declared.Response.{Response}
+use Rattle.bursztok.specs.declared.Reading.{Reading}
+use Rattle.bursztok.specs.declared.Part.{Part}
+use Rattle.bursztok.specs.Exports.{Left, left, Replied, replied, Stored, stored, Located, located}
+use Rattle.bursztok.proofs.bursztok_key_test.Reads as key-test
+use Rattle.bursztok.proofs.bursztok_commitment.Reads as commitment
+use Rattle.bursztok.proofs.bursztok_respond.Reads as respond
+use Rattle.bursztok.proofs.bursztok_rebuild.Reads as rebuild
+use Rattle.bursztok.proofs.bursztok_compare.Reads as compare
+use Rattle.bursztok.proofs.bursztok_write.Reads as write
+use Rattle.bursztok.proofs.bursztok_read.Reads as read
+use Rattle.bursztok.proofs.bursztok_z1_section.Reads as z1-section
+use Rattle.bursztok.proofs.bursztok_z2_section.Reads as z2-section
+use Rattle.bursztok.proofs.bursztok_list_section.Reads as list-section
+
+-- what an export leaves behind is all in one value
+one-left : {r r′ : Answer} {l l′ : List ℕ} (w : Left) → left r l ≡ w → left r′ l′ ≡ w → (r ≡ r′) × (l ≡ l′)
+one-left w p q = (cc, cc)
+
+one-replied : {r r′ : Response} {x x′ y y′ : List ℤ} (w : Replied) → replied r x y ≡ w → replied r′ x′ y′ ≡ w → (r ≡ r′) × (x ≡ x′) × (y ≡ y′)
+one-replied w p q = (cc, cc, cc)
+
+one-stored : {r r′ : Reading} {x x′ y y′ : List ℤ} {l l′ : List ℕ} (w : Stored) → stored r x y l ≡ w → stored r′ x′ y′ l′ ≡ w
+    → (r ≡ r′) × (x ≡ x′) × (y ≡ y′) × (l ≡ l′)
+one-stored w p q = (cc, cc, cc, cc)
+
+one-located : {r r′ : Part} {n n′ m m′ : ℕ} (w : Located) → located r n m ≡ w → located r′ n′ m′ ≡ w → (r ≡ r′) × (n ≡ n′) × (m ≡ m′)
+one-located w p q = (cc, cc, cc)
+
+pub key-test-determined : (κs : Lfts 3) (a : _) (r r′ : _) (s s′ : _) → key-test.Post κs a r s → key-test.Post κs a r′ s′ → r ≡ r′
+key-test-determined κs a r r′ s s′ p q = p ∙ sym q
+
+-- the answer and the output vector
+pub commitment-determined : (κs : Lfts 4) (a : _) (r r′ : _) (s s′ : _) → commitment.Post κs a r s → commitment.Post κs a r′ s′
+    → (r ≡ r′) × (now (s .1 .1 .1 .1 .0) ≡ now (s′ .1 .1 .1 .1 .0))
+commitment-determined κs a r r′ s s′ p q = one-left _ p q
+
+-- the answer with the count of words, and both output vectors
+pub respond-determined : (κs : Lfts 10) (a : _) (r r′ : _) (s s′ : _) → respond.Post κs a r s → respond.Post κs a r′ s′
+    → (r ≡ r′)
+    × (now (s .1 .1 .1 .1 .1 .1 .1 .1 .1 .1 .0) ≡ now (s′ .1 .1 .1 .1 .1 .1 .1 .1 .1 .1 .0))
+    × (now (s .1 .1 .1 .1 .1 .1 .1 .1 .1 .1 .1 .0) ≡ now (s′ .1 .1 .1 .1 .1 .1 .1 .1 .1 .1 .1 .0))
+respond-determined κs a r r′ s s′ p q = one-replied _ p q
+
+pub rebuild-determined : (κs : Lfts 5) (a : _) (r r′ : _) (s s′ : _) → rebuild.Post κs a r s → rebuild.Post κs a r′ s′
+    → (r ≡ r′) × (now (s .1 .1 .1 .1 .1 .0) ≡ now (s′ .1 .1 .1 .1 .1 .0))
+rebuild-determined κs a r r′ s s′ p q = one-left _ p q
+
+pub compare-determined : (κs : Lfts 2) (a : _) (r r′ : _) (s s′ : _) → compare.Post κs a r s → compare.Post κs a r′ s′ → r ≡ r′
+compare-determined κs a r r′ s s′ p q = p ∙ sym q
+
+-- the answer and the output
+pub write-determined : (κs : Lfts 4) (a : _) (r r′ : _) (s s′ : _) → write.Post κs a r s → write.Post κs a r′ s′
+    → (r ≡ r′) × (now (s .1 .1 .1 .1 .0) ≡ now (s′ .1 .1 .1 .1 .0))
+write-determined κs a r r′ s s′ p q = one-left _ p q
+
+-- the answer with the set, and the three buffers
+pub read-determined : (κs : Lfts 4) (a : _) (r r′ : _) (s s′ : _) → read.Post κs a r s → read.Post κs a r′ s′
+    → (r ≡ r′) × (now (s .1 .0) ≡ now (s′ .1 .0)) × (now (s .1 .1 .0) ≡ now (s′ .1 .1 .0)) × (now (s .1 .1 .1 .0) ≡ now (s′ .1 .1 .1 .0))
+read-determined κs a r r′ s s′ p q = one-stored _ p q
+
+-- the part, the number and the place
+pub z1-section-determined : (κs : Lfts 3) (a : _) (r r′ : _) (s s′ : _) → z1-section.Post κs a r s → z1-section.Post κs a r′ s′
+    → (r ≡ r′) × (now (s .1 .0) ≡ now (s′ .1 .0)) × (now (s .1 .1 .0) ≡ now (s′ .1 .1 .0))
+z1-section-determined κs a r r′ s s′ p q = one-located _ p q
+
+pub z2-section-determined : (κs : Lfts 3) (a : _) (r r′ : _) (s s′ : _) → z2-section.Post κs a r s → z2-section.Post κs a r′ s′
+    → (r ≡ r′) × (now (s .1 .0) ≡ now (s′ .1 .0)) × (now (s .1 .1 .0) ≡ now (s′ .1 .1 .0))
+z2-section-determined κs a r r′ s s′ p q = one-located _ p q
+
+pub list-section-determined : (κs : Lfts 3) (a : _) (r r′ : _) (s s′ : _) → list-section.Post κs a r s → list-section.Post κs a r′ s′
+    → (r ≡ r′) × (now (s .1 .0) ≡ now (s′ .1 .0)) × (now (s .1 .1 .0) ≡ now (s′ .1 .1 .0))
+list-section-determined κs a r r′ s s′ p q = one-located _ p q

@@ -1,0 +1,15 @@
+use borrow.Author.Needs.{needs}
+use Rattle.bursztok.proofs.respond_answer.Statement.{statement}
+use Rattle.bursztok.proofs.respond_answer.Tie as tie
+
+number-requires : tie.Need-number-requires
+number-requires c κs = search needs
+
+place-requires : tie.Need-place-requires
+place-requires c κs = search needs
+
+returns : tie.Need-returns
+returns c = cc
+
+pub respond-answer-spec : {M : Type 1} → statement M
+respond-answer-spec = tie.close (tie.spec number-requires place-requires returns)

@@ -1,0 +1,204 @@
+// The C library: each export is its call, with the answer as numbers. include/bursztok.h declares the same names for C.
+ghost use mathlib.Core.Path.{_≡_};
+ghost use Rattle.keys.specs.Key.{keyTest};
+ghost use Rattle.commitment.specs.Commitment.{commitment};
+ghost use Rattle.signing.specs.Response.{response};
+ghost use Rattle.checking.specs.Checking.{rebuild, comparison};
+ghost use Rattle.record_forms.specs.Sections.{z1Section, z2Section, listSection};
+ghost use Rattle.records.specs.Writer.{writingOf};
+ghost use Rattle.records.specs.Reader.{readingOf};
+ghost use lib.ListN.{length};
+ghost use Rattle.bursztok.specs.Exports.{answerOf, left, leftBy, leftByWriter, responseWith, replied, repliedBy, readingWith, stored, storedBy, partAt, located, locatedBy};
+use answers::Outcome;
+use record_forms::LIST_OFFSET;
+use record_forms::Z1_OFFSET;
+use record_forms::Z2_OFFSET;
+
+#[repr(C)]
+pub struct Answer {
+    pub number: u32,
+    pub place: u32,
+}
+
+// With the count of words that the draw took.
+#[repr(C)]
+pub struct Response {
+    pub number: u32,
+    pub place: u32,
+    pub words: u64,
+}
+
+// The set is 0 when the reader refuses.
+#[repr(C)]
+pub struct Reading {
+    pub number: u32,
+    pub place: u32,
+    pub set: u32,
+}
+
+// A part of the lent record.
+#[repr(C)]
+pub struct Part {
+    pub start: u64,
+    pub length: u64,
+}
+
+#[no_mangle]
+pub extern "C" fn bursztok_key_test(set: u32, f: &[i8], g: &[i8], a: &[u16]) -> Answer
+    ensures { λ r. ⌜ r ≡ answerOf (keyTest set (now (f .entry)) (now (g .entry)) (now (a .entry))) ⌝ }
+{
+    answered(keys::key_test(set, f, g, a))
+}
+
+#[no_mangle]
+pub extern "C" fn bursztok_commitment(
+    set: u32,
+    a: &[u16],
+    y1: &[i16],
+    y2: &[i16],
+    out: &mut [u16],
+) -> Answer
+    ensures { λ r. ⌜ left r (now (out .exit)) ≡ leftBy (commitment set (now (a .entry)) (now (y1 .entry)) (now (y2 .entry)) (now (out .entry))) ⌝ }
+{
+    answered(commitment::commitment(set, a, y1, y2, out))
+}
+
+#[no_mangle]
+pub extern "C" fn bursztok_respond(
+    set: u32,
+    f: &[i8],
+    g: &[i8],
+    a: &[u16],
+    y1: &[i16],
+    y2: &[i16],
+    list: &[u16],
+    sign: bool,
+    thresholds: &[u64],
+    words: &[u64],
+    z1: &mut [i16],
+    z2: &mut [i8],
+) -> Response
+    ensures { λ r. ⌜ replied r (now (z1 .exit)) (now (z2 .exit))
+        ≡ repliedBy (response set (now (f .entry)) (now (g .entry)) (now (a .entry)) (now (y1 .entry)) (now (y2 .entry)) (now (list .entry)) sign
+        (now (thresholds .entry)) (now (words .entry)) (now (z1 .entry)) (now (z2 .entry))) ⌝ }
+{
+    respond_answer(signing::respond(set, f, g, a, y1, y2, list, sign, thresholds, words, z1, z2))
+}
+
+#[no_mangle]
+pub extern "C" fn bursztok_rebuild(
+    set: u32,
+    a: &[u16],
+    z1: &[i16],
+    z2: &[i8],
+    list: &[u16],
+    out: &mut [u16],
+) -> Answer
+    ensures { λ r. ⌜ left r (now (out .exit)) ≡ leftBy (rebuild set (now (a .entry)) (now (z1 .entry)) (now (z2 .entry)) (now (list .entry)) (now (out .entry))) ⌝ }
+{
+    answered(checking::rebuild(set, a, z1, z2, list, out))
+}
+
+#[no_mangle]
+pub extern "C" fn bursztok_compare(set: u32, claimed: &[u16], hashed: &[u16]) -> Answer
+    ensures { λ r. ⌜ r ≡ answerOf (comparison set (now (claimed .entry)) (now (hashed .entry))) ⌝ }
+{
+    answered(checking::comparison(set, claimed, hashed))
+}
+
+#[no_mangle]
+pub extern "C" fn bursztok_write(
+    set: u32,
+    z1: &[i16],
+    z2: &[i8],
+    list: &[u16],
+    out: &mut [u8],
+) -> Answer
+    ensures { λ r. ⌜ left r (now (out .exit)) ≡ leftByWriter (writingOf set (now (z1 .entry)) (now (z2 .entry)) (now (list .entry)) (now (out .entry))) ⌝ }
+{
+    answered(records::write(set, z1, z2, list, out))
+}
+
+#[no_mangle]
+pub extern "C" fn bursztok_read(
+    rec: &[u8],
+    z1: &mut [i16],
+    z2: &mut [i8],
+    list: &mut [u16],
+) -> Reading
+    ensures { λ r. ⌜ stored r (now (z1 .exit)) (now (z2 .exit)) (now (list .exit)) ≡ storedBy (readingOf (now (rec .entry)) (now (z1 .entry)) (now (z2 .entry)) (now (list .entry))) ⌝ }
+{
+    read_answer(records::read(rec, z1, z2, list))
+}
+
+#[no_mangle]
+pub extern "C" fn bursztok_z1_section(rec: &[u8], number: &mut u32, place: &mut u32) -> Part
+    ensures { λ r. ⌜ located r (now (number .exit)) (now (place .exit)) ≡ locatedBy (rec .entry .ptr) (z1Section (rec .entry .ptr) (now (rec .entry))) ⌝ }
+{
+    let part = records::z1_section(rec, number, place);
+    part_at(*number, Z1_OFFSET, part)
+}
+
+#[no_mangle]
+pub extern "C" fn bursztok_z2_section(rec: &[u8], number: &mut u32, place: &mut u32) -> Part
+    ensures { λ r. ⌜ located r (now (number .exit)) (now (place .exit)) ≡ locatedBy (rec .entry .ptr) (z2Section (rec .entry .ptr) (now (rec .entry))) ⌝ }
+{
+    let part = records::z2_section(rec, number, place);
+    part_at(*number, Z2_OFFSET, part)
+}
+
+#[no_mangle]
+pub extern "C" fn bursztok_list_section(rec: &[u8], number: &mut u32, place: &mut u32) -> Part
+    ensures { λ r. ⌜ located r (now (number .exit)) (now (place .exit)) ≡ locatedBy (rec .entry .ptr) (listSection (rec .entry .ptr) (now (rec .entry))) ⌝ }
+{
+    let part = records::list_section(rec, number, place);
+    part_at(*number, LIST_OFFSET, part)
+}
+
+fn answered(outcome: Outcome) -> Answer
+    ensures { λ r. ⌜ r ≡ answerOf outcome ⌝ }
+{
+    Answer {
+        number: outcome.number(),
+        place: outcome.place(),
+    }
+}
+
+fn respond_answer(r: signing::Response) -> Response
+    ensures { λ s. ⌜ s ≡ responseWith (r .outcome) (r .words) ⌝ }
+{
+    let o = r.outcome;
+    Response {
+        number: o.number(),
+        place: o.place(),
+        words: r.words as u64,
+    }
+}
+
+fn read_answer(r: records::Reading) -> Reading
+    ensures { λ s. ⌜ s ≡ readingWith (r .outcome) (r .set) ⌝ }
+{
+    let o = r.outcome;
+    Reading {
+        number: o.number(),
+        place: o.place(),
+        set: r.set,
+    }
+}
+
+// A section starts at its offset, and at 0 where the header is malformed.
+fn part_at(number: u32, offset: usize, part: &[u8]) -> Part
+    ensures { λ r. ⌜ r ≡ partAt number offset (length (now (part .entry))) ⌝ }
+{
+    if number == 0 {
+        Part {
+            start: offset as u64,
+            length: part.len() as u64,
+        }
+    } else {
+        Part {
+            start: 0,
+            length: part.len() as u64,
+        }
+    }
+}

@@ -1,0 +1,49 @@
+// The comparison.
+ghost use Prim.Native.Nat.{_<_};
+use crate::rows;
+use crate::show;
+use bursztok::bursztok_compare;
+
+pub fn run() {
+    show::heading(b"comparison of 0, 1, 2, .. with itself, changed");
+    claimed(b"set 1, the same", 1, 23, 0, 0);
+    claimed(b"set 0, the same", 0, 23, 0, 0);
+    claimed(b"set 4, the same", 4, 39, 0, 0);
+    claimed(b"set 4, 23 places", 4, 23, 0, 0);
+    claimed(b"set 1, last place 30", 1, 23, 22, 30);
+    claimed(b"set 1, last place 511", 1, 23, 22, 511);
+    claimed(b"set 1, last place 512", 1, 23, 22, 512);
+    claimed(b"set 1, a repeated place", 1, 23, 5, 4);
+    claimed(b"set 1, a falling place", 1, 23, 5, 3);
+    claimed(b"set 1, 22 places", 1, 22, 0, 0);
+    claimed(b"set 1, 24 places", 1, 24, 0, 0);
+    claimed(b"set 1, no place", 1, 0, 0, 0);
+    claimed(b"set 5, a falling place", 5, 23, 5, 3);
+    show::heading(b"comparison, the hashed list changed");
+    hashed(b"last place 30", 23, 22, 30);
+    hashed(b"last place 512", 23, 22, 512);
+    hashed(b"22 places", 22, 0, 0);
+    hashed(b"24 places", 24, 0, 0);
+}
+
+// The claimed list has so many places, one of them changed.
+fn claimed(text: &[u8], set: u32, count: usize, at: usize, place: u16)
+    requires { ⌜ at < 40 ⌝ }
+{
+    let list = rows::places(at, place);
+    let other = rows::places(0, 0);
+    let kappa: usize = if set == 4 { 39 } else { 23 };
+    let claimed = rows::first_whole(&list, count);
+    let hashed = rows::first_whole(&other, kappa);
+    show::answer(text, bursztok_compare(set, claimed, hashed));
+}
+
+fn hashed(text: &[u8], count: usize, at: usize, place: u16)
+    requires { ⌜ at < 40 ⌝ }
+{
+    let list = rows::places(0, 0);
+    let other = rows::places(at, place);
+    let claimed = rows::first_whole(&list, 23);
+    let hashed = rows::first_whole(&other, count);
+    show::answer(text, bursztok_compare(1, claimed, hashed));
+}

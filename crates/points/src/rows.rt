@@ -1,0 +1,66 @@
+// Rows that the cases are made of.
+ghost use mathlib.Core.Path.{_≡_};
+ghost use Prim.Native.Nat.{_≤_, _<_};
+ghost use lib.ListN.{length};
+use sets::Set;
+
+// 0, 1, .., 39, with one entry exchanged: its first kappa entries are a proper list as long as it rises.
+pub fn places(at: usize, place: u16) -> [u16; 40]
+    requires { ⌜ at < 40 ⌝ }
+    ensures { λ r. ⌜ length r ≡ 40 ⌝ }
+{
+    let mut list = [0u16; 40];
+    for i in 0..40 {
+        list[i] = i as u16;
+    }
+    list[at] = place;
+    list
+}
+
+// A row whose first entries are this one, and 0 after them.
+pub fn narrow(count: usize, entry: i8) -> [i8; Set::DIMENSION]
+    requires { ⌜ count ≤ 512 ⌝ }
+    ensures { λ r. ⌜ length r ≡ 512 ⌝ }
+{
+    let mut row = [0i8; Set::DIMENSION];
+    for i in 0..count {
+        row[i] = entry;
+    }
+    row
+}
+
+pub fn wide(count: usize, entry: i16) -> [i16; Set::DIMENSION]
+    requires { ⌜ count ≤ 512 ⌝ }
+    ensures { λ r. ⌜ length r ≡ 512 ⌝ }
+{
+    let mut row = [0i16; Set::DIMENSION];
+    for i in 0..count {
+        row[i] = entry;
+    }
+    row
+}
+
+// The first entries of a row, all where there are fewer.
+pub fn first_narrow(row: &[i8], count: usize) -> &[i8] {
+    if count <= row.len() {
+        &row[..count]
+    } else {
+        row
+    }
+}
+
+pub fn first_wide(row: &[i16], count: usize) -> &[i16] {
+    if count <= row.len() {
+        &row[..count]
+    } else {
+        row
+    }
+}
+
+pub fn first_whole(row: &[u16], count: usize) -> &[u16] {
+    if count <= row.len() {
+        &row[..count]
+    } else {
+        row
+    }
+}

@@ -1,0 +1,122 @@
+// What a case prints.
+ghost use Prim.Native.Nat.{_≤_, _<_};
+ghost use lib.ListN.{length};
+use crate::rows;
+use bursztok::Answer;
+use libc::STDOUT_FILENO;
+use sets::Set;
+
+// What output vectors hold before a call: no call writes it.
+pub const OLD: u16 = 9999;
+
+pub fn heading(text: &[u8]) {
+    print(text);
+    print(b"\n");
+}
+
+// A call with no output.
+pub fn answer(text: &[u8], r: Answer) {
+    start(text, r);
+    print(b"\n");
+}
+
+// A call with an output vector.
+pub fn filled(text: &[u8], r: Answer, out: &[u16]) {
+    start(text, r);
+    if r.number == 0 {
+        print(b", gives");
+        runs(rows::first_whole(out, Set::DIMENSION));
+    } else {
+        if all_old(out) {
+            print(b", untouched");
+        } else {
+            print(b", WRITTEN");
+        }
+    }
+    print(b"\n");
+}
+
+fn start(text: &[u8], r: Answer) {
+    print(b"  ");
+    print(text);
+    print(b": ");
+    number(r.number as u64);
+    if has_place(r) {
+        print(b" at ");
+        number(r.place as u64);
+    }
+}
+
+// Places are 0 except with 10 and 13.
+fn has_place(r: Answer) -> bool {
+    if r.number == 10 {
+        return true;
+    }
+    if r.number == 13 {
+        return true;
+    }
+    r.place != 0
+}
+
+// Each run of equal entries, as the entry and how often it stands there.
+fn runs(row: &[u16]) {
+    let mut count: usize = 0;
+    let mut i = 0;
+    while i < row.len() {
+        count = counted(row, i, count + 1);
+        i += 1;
+    }
+}
+
+// A run that ends at place i is printed, and none is counted any more.
+fn counted(row: &[u16], i: usize, count: usize) -> usize
+    requires { ⌜ i < length (now row) ⌝ }
+    ensures { λ r. ⌜ r ≤ count ⌝ }
+{
+    if ends(row, i) {
+        run(row[i], count);
+        return 0;
+    }
+    count
+}
+
+// Whether the entry after place i is another one.
+fn ends(row: &[u16], i: usize) -> bool
+    requires { ⌜ i < length (now row) ⌝ }
+{
+    let next = i + 1;
+    if next < row.len() {
+        row[i] != row[next]
+    } else {
+        true
+    }
+}
+
+fn run(entry: u16, count: usize) {
+    print(b" ");
+    number(entry as u64);
+    if 1 < count {
+        print(b" (");
+        number(count as u64);
+        print(b" times)");
+    }
+}
+
+fn all_old(row: &[u16]) -> bool {
+    let mut i = 0;
+    while i < row.len() {
+        if row[i] != OLD {
+            return false;
+        }
+        i += 1;
+    }
+    true
+}
+
+fn number(n: u64) {
+    io::print_decimal(STDOUT_FILENO, n);
+}
+
+fn print(text: &[u8]) {
+    io::write_all(STDOUT_FILENO, text);
+}
