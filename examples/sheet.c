@@ -163,7 +163,7 @@ static void show(const char *what, bursztok_answer answer, uint32_t number, uint
 
 int main(int count, char **words)
 {
-    const char *sheet = count > 1 ? words[1] : "18,240.7 m3 of crude, berth 3";
+    const char *sheet = count > 1 ? words[1] : "138,240.7 m3 of LNG, berth 3";
     uint8_t record[BURSZTOK_RECORD];
     uint32_t number, place;
     bursztok_part part;

@@ -16,7 +16,7 @@ use std::io::Write;
 use std::path::{Path, PathBuf};
 use std::time::{Duration, Instant};
 
-const SHEET: &str = "Custody transfer 4711: 18,240.7 m3 of crude, 34.2 API, berth 3, 06:40.";
+const SHEET: &str = "Custody transfer 4711: 138,240.7 m3 of LNG at -161.2 C, berth 3, 06:40.";
 
 pub fn demo(arguments: &Arguments) -> Result<(), Failure> {
     let number = arguments.number_or("set", 1)?;
