@@ -67,7 +67,7 @@ module _ (s : Set) (f g : List ℤ) (a : List ℕ) (y1 y2 : List ℤ) (l : List 
   v-512 : Sized v
   v-512 = choices-sized key key-512 l
 
-  z-first : length (z .first) ≡ dimension
+  pub z-first : length (z .first) ≡ dimension
   unfolding masked
   z-first = length-zipWith (signed (not bit)) y1 (v .first) (before .long-y1 ∙ sym (v-512 .first)) ∙ before .long-y1
 
@@ -78,7 +78,7 @@ module _ (s : Set) (f g : List ℤ) (a : List ℕ) (y1 y2 : List ℤ) (l : List 
   u-512 : length u ≡ dimension
   u-512 = length-sums a y1 y2 (before .long-y2)
 
-  daggers-512 : length (daggers s u (z .second)) ≡ dimension
+  pub daggers-512 : length (daggers s u (z .second)) ≡ dimension
   unfolding daggers
   daggers-512 = length-zipWith (dagger s) u (z .second) (u-512 ∙ sym z-second) ∙ u-512
 

@@ -5,10 +5,13 @@ use mathlib.Core.List.{List}
 use Prim.Native.Nat.{ℕ}
 use contract.Lifetimes.{Lfts}
 use denote.Ref.{now}
+use lib.IntN.{ℤ}
 use Rattle.answers.specs.declared.Outcome.{Outcome}
 use Rattle.answers.specs.Outcomes.{Filled, filled}
+use Rattle.signing.specs.Response.{Responded, responded}
 use Rattle.keys.proofs.key_test.Reads as keyTest
 use Rattle.commitment.proofs.commitment.Reads as commitment
+use Rattle.signing.proofs.respond.Reads as respond
 use Rattle.checking.proofs.rebuild.Reads as rebuild
 use Rattle.checking.proofs.comparison.Reads as comparison
 
@@ -16,12 +19,23 @@ use Rattle.checking.proofs.comparison.Reads as comparison
 filled-parts : {o o′ : Outcome} {c c′ : List ℕ} (answer : Filled) → filled o c ≡ answer → filled o′ c′ ≡ answer → (o ≡ o′) × (c ≡ c′)
 filled-parts answer p q = (cc, cc)
 
+-- one equation fixes the outcome, the count and both vectors
+responded-parts : {o o′ : Outcome} {n n′ : ℕ} {x x′ y y′ : List ℤ} (answer : Responded) → responded o n x y ≡ answer → responded o′ n′ x′ y′ ≡ answer
+    → (o ≡ o′) × (n ≡ n′) × (x ≡ x′) × (y ≡ y′)
+responded-parts answer p q = (cc, cc, cc, cc)
+
 pub key-test-determined : (κs : Lfts 3) (a : _) (r r′ : _) (s s′ : _) → keyTest.Post κs a r s → keyTest.Post κs a r′ s′ → r ≡ r′
 key-test-determined κs a r r′ s s′ p q = p ∙ sym q
 
 pub commitment-determined : (κs : Lfts 4) (a : _) (r r′ : _) (s s′ : _) → commitment.Post κs a r s → commitment.Post κs a r′ s′
     → (r ≡ r′) × (now (s .1 .1 .1 .1 .0) ≡ now (s′ .1 .1 .1 .1 .0))
 commitment-determined κs a r r′ s s′ p q = filled-parts _ p q
+
+pub response-determined : (κs : Lfts 10) (a : _) (r r′ : _) (s s′ : _) → respond.Post κs a r s → respond.Post κs a r′ s′
+    → (r .outcome ≡ r′ .outcome) × (r .words ≡ r′ .words)
+    × (now (s .1 .1 .1 .1 .1 .1 .1 .1 .1 .1 .0) ≡ now (s′ .1 .1 .1 .1 .1 .1 .1 .1 .1 .1 .0))
+    × (now (s .1 .1 .1 .1 .1 .1 .1 .1 .1 .1 .1 .0) ≡ now (s′ .1 .1 .1 .1 .1 .1 .1 .1 .1 .1 .1 .0))
+response-determined κs a r r′ s s′ p q = responded-parts _ p q
 
 pub rebuild-determined : (κs : Lfts 5) (a : _) (r r′ : _) (s s′ : _) → rebuild.Post κs a r s → rebuild.Post κs a r′ s′
     → (r ≡ r′) × (now (s .1 .1 .1 .1 .1 .0) ≡ now (s′ .1 .1 .1 .1 .1 .0))
