@@ -1,8 +1,5 @@
 // The commitment.
-use crate::rows;
 use crate::show;
-use bursztok::Answer;
-use bursztok::bursztok_commitment;
 use sets::Set;
 
 pub fn run() {
@@ -137,9 +134,9 @@ fn sized(text: &[u8], a_len: usize, y1_len: usize, y2_len: usize, out_len: usize
     let a = [0u16; 513];
     let y1 = [0i16; 513];
     let y2 = [0i16; 513];
-    let a_lent = rows::first_whole(&a, a_len);
-    let y1_lent = rows::first_wide(&y1, y1_len);
-    let y2_lent = rows::first_wide(&y2, y2_len);
+    let a_lent = lending::first_whole(&a, a_len);
+    let y1_lent = lending::first_wide(&y1, y1_len);
+    let y2_lent = lending::first_wide(&y2, y2_len);
     shown(text, 1, a_lent, y1_lent, y2_lent, out_len);
 }
 
@@ -154,14 +151,6 @@ fn masked(text: &[u8], set: u32, out_len: usize, first: u16) {
 // With so many entries of an output vector.
 fn shown(text: &[u8], set: u32, a: &[u16], y1: &[i16], y2: &[i16], out_len: usize) {
     let mut out = [show::OLD; 513];
-    let r = committed(set, a, y1, y2, &mut out, out_len);
+    let r = lending::commitment(set, a, y1, y2, &mut out, out_len);
     show::filled(text, r, &out);
-}
-
-fn committed(set: u32, a: &[u16], y1: &[i16], y2: &[i16], out: &mut [u16], count: usize) -> Answer {
-    if count <= out.len() {
-        bursztok_commitment(set, a, y1, y2, &mut out[..count])
-    } else {
-        bursztok_commitment(set, a, y1, y2, out)
-    }
 }

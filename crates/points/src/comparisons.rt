@@ -33,8 +33,8 @@ fn claimed(text: &[u8], set: u32, count: usize, at: usize, place: u16)
     let list = rows::places(at, place);
     let other = rows::places(0, 0);
     let kappa: usize = if set == 4 { 39 } else { 23 };
-    let claimed = rows::first_whole(&list, count);
-    let hashed = rows::first_whole(&other, kappa);
+    let claimed = lending::first_whole(&list, count);
+    let hashed = lending::first_whole(&other, kappa);
     show::answer(text, bursztok_compare(set, claimed, hashed));
 }
 
@@ -43,7 +43,7 @@ fn hashed(text: &[u8], count: usize, at: usize, place: u16)
 {
     let list = rows::places(0, 0);
     let other = rows::places(at, place);
-    let claimed = rows::first_whole(&list, 23);
-    let hashed = rows::first_whole(&other, count);
+    let claimed = lending::first_whole(&list, 23);
+    let hashed = lending::first_whole(&other, count);
     show::answer(text, bursztok_compare(1, claimed, hashed));
 }

@@ -90,9 +90,9 @@ fn sized(text: &[u8], set: u32, f_len: usize, g_len: usize, a_len: usize, first:
     let mut a = [0u16; 513];
     f[0] = first;
     a[0] = 1;
-    let f_lent = rows::first_narrow(&f, f_len);
-    let g_lent = rows::first_narrow(&g, g_len);
-    let a_lent = rows::first_whole(&a, a_len);
+    let f_lent = lending::first_narrow(&f, f_len);
+    let g_lent = lending::first_narrow(&g, g_len);
+    let a_lent = lending::first_whole(&a, a_len);
     show::answer(text, bursztok_key_test(set, f_lent, g_lent, a_lent));
 }
 

@@ -2,8 +2,6 @@
 ghost use Prim.Native.Nat.{_≤_, _<_};
 use crate::rows;
 use crate::show;
-use bursztok::Answer;
-use bursztok::bursztok_rebuild;
 use sets::Set;
 
 pub fn run() {
@@ -181,10 +179,10 @@ fn sized(text: &[u8], a_len: usize, z1_len: usize, z2_len: usize, out_len: usize
     let z1 = [0i16; 513];
     let z2 = [0i8; 513];
     let places = rows::places(0, 0);
-    let a_lent = rows::first_whole(&a, a_len);
-    let z1_lent = rows::first_wide(&z1, z1_len);
-    let z2_lent = rows::first_narrow(&z2, z2_len);
-    let list = rows::first_whole(&places, 23);
+    let a_lent = lending::first_whole(&a, a_len);
+    let z1_lent = lending::first_wide(&z1, z1_len);
+    let z2_lent = lending::first_narrow(&z2, z2_len);
+    let list = lending::first_whole(&places, 23);
     show_part(text, 1, a_lent, z1_lent, z2_lent, list, out_len);
 }
 
@@ -195,7 +193,7 @@ fn listed(text: &[u8], kappa: usize, at: usize, place: u16)
     let z1 = [0i16; Set::DIMENSION];
     let z2 = [0i8; Set::DIMENSION];
     let places = rows::places(at, place);
-    let list = rows::first_whole(&places, kappa);
+    let list = lending::first_whole(&places, kappa);
     show_part(text, 1, &a, &z1, &z2, list, 512);
 }
 
@@ -204,7 +202,7 @@ fn faulty(text: &[u8], set: u32, out_len: usize, first: u16, second: u16, entry:
     let mut z1 = [2100i16; Set::DIMENSION];
     let z2 = [0i8; Set::DIMENSION];
     let places = rows::places(1, second);
-    let list = rows::first_whole(&places, 23);
+    let list = lending::first_whole(&places, 23);
     a[0] = first;
     z1[3] = entry;
     show_part(text, set, &a, &z1, &z2, list, out_len);
@@ -213,7 +211,7 @@ fn faulty(text: &[u8], set: u32, out_len: usize, first: u16, second: u16, entry:
 // With the list 0, 1, 2, .. of so many places.
 fn shown(text: &[u8], set: u32, kappa: usize, a: &[u16], z1: &[i16], z2: &[i8]) {
     let places = rows::places(0, 0);
-    let list = rows::first_whole(&places, kappa);
+    let list = lending::first_whole(&places, kappa);
     show_part(text, set, a, z1, z2, list, 512);
 }
 
@@ -228,22 +226,6 @@ fn show_part(
     out_len: usize,
 ) {
     let mut out = [show::OLD; 513];
-    let r = rebuilt(set, a, z1, z2, list, &mut out, out_len);
+    let r = lending::rebuild(set, a, z1, z2, list, &mut out, out_len);
     show::filled(text, r, &out);
-}
-
-fn rebuilt(
-    set: u32,
-    a: &[u16],
-    z1: &[i16],
-    z2: &[i8],
-    list: &[u16],
-    out: &mut [u16],
-    count: usize,
-) -> Answer {
-    if count <= out.len() {
-        bursztok_rebuild(set, a, z1, z2, list, &mut out[..count])
-    } else {
-        bursztok_rebuild(set, a, z1, z2, list, out)
-    }
 }

@@ -39,28 +39,3 @@ pub fn wide(count: usize, entry: i16) -> [i16; Set::DIMENSION]
     }
     row
 }
-
-// The first entries of a row, all where there are fewer.
-pub fn first_narrow(row: &[i8], count: usize) -> &[i8] {
-    if count <= row.len() {
-        &row[..count]
-    } else {
-        row
-    }
-}
-
-pub fn first_wide(row: &[i16], count: usize) -> &[i16] {
-    if count <= row.len() {
-        &row[..count]
-    } else {
-        row
-    }
-}
-
-pub fn first_whole(row: &[u16], count: usize) -> &[u16] {
-    if count <= row.len() {
-        &row[..count]
-    } else {
-        row
-    }
-}

@@ -1,7 +1,6 @@
 // What a case prints.
 ghost use Prim.Native.Nat.{_≤_, _<_};
 ghost use lib.ListN.{length};
-use crate::rows;
 use bursztok::Answer;
 use libc::STDOUT_FILENO;
 use sets::Set;
@@ -25,7 +24,7 @@ pub fn filled(text: &[u8], r: Answer, out: &[u16]) {
     start(text, r);
     if r.number == 0 {
         print(b", gives");
-        runs(rows::first_whole(out, Set::DIMENSION));
+        runs(lending::first_whole(out, Set::DIMENSION));
     } else {
         if all_old(out) {
             print(b", untouched");

@@ -1,8 +1,8 @@
 use native.Mathlib.Omega.{arith}
 use lib.ListN.{length-take}
 use borrow.Author.Needs.{needs}
-use Rattle.points.proofs.rows.first_narrow.Statement.{statement}
-use Rattle.points.proofs.rows.first_narrow.Tie as tie
+use Rattle.lending.proofs.first_narrow.Statement.{statement}
+use Rattle.lending.proofs.first_narrow.Tie as tie
 
 slice-aggregate-result : tie.Need-slice-aggregate-result
 slice-aggregate-result c = simp length-take (omega arith)

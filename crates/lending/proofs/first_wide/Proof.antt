@@ -1,8 +1,8 @@
 use native.Mathlib.Omega.{arith}
 use lib.ListN.{length-take}
 use borrow.Author.Needs.{needs}
-use Rattle.points.proofs.rows.first_whole.Statement.{statement}
-use Rattle.points.proofs.rows.first_whole.Tie as tie
+use Rattle.lending.proofs.first_wide.Statement.{statement}
+use Rattle.lending.proofs.first_wide.Tie as tie
 
 slice-aggregate-result : tie.Need-slice-aggregate-result
 slice-aggregate-result c = simp length-take (omega arith)
@@ -13,5 +13,5 @@ returns c = search needs
 returns-2 : tie.Need-returns-2
 returns-2 c = search needs
 
-pub first-whole-spec : {M : Type 1} → statement M
-first-whole-spec = tie.close (tie.spec slice-aggregate-result returns returns-2)
+pub first-wide-spec : {M : Type 1} → statement M
+first-wide-spec = tie.close (tie.spec slice-aggregate-result returns returns-2)

@@ -1,0 +1,316 @@
+// The ten calls on the slots: whether each answers and leaves behind what is wanted.
+ghost use mathlib.Core.Path.{_≡_};
+ghost use Prim.Native.Nat.{_<_};
+ghost use lib.ListN.{length};
+use crate::answers::Asked;
+use crate::answers::is_left;
+use crate::answers::is_wanted;
+use crate::slots;
+use crate::slots::ENTRIES;
+use crate::slots::length_of;
+use bursztok::Answer;
+use bursztok::Part;
+use bursztok::Reading;
+use bursztok::Response;
+use lending::first_bytes;
+use lending::first_long;
+use lending::first_narrow;
+use lending::first_whole;
+use lending::first_wide;
+
+// The call of this number, 1 to 10.
+pub fn call(memory: &[u8], which: u8, k: Asked) -> bool
+    requires { ⌜ length (now memory) ≡ 36864 ⌝ }
+{
+    match which {
+        1 => key_test(memory, k),
+        2 => commitment(memory, k),
+        3 => respond(memory, k),
+        4 => rebuild(memory, k),
+        5 => comparison(memory, k),
+        6 => write(memory, k),
+        7 => read(memory, k),
+        8 | 9 | 10 => section(memory, which, k),
+        _ => false,
+    }
+}
+
+fn key_test(memory: &[u8], k: Asked) -> bool
+    requires { ⌜ length (now memory) ≡ 36864 ⌝ }
+{
+    let f = slots::narrow(memory, 1);
+    let g = slots::narrow(memory, 2);
+    let a = slots::whole(memory, 3);
+    let f_lent = first_narrow(&f, length_of(memory, 1));
+    let g_lent = first_narrow(&g, length_of(memory, 2));
+    let a_lent = first_whole(&a, length_of(memory, 3));
+    let r = bursztok::bursztok_key_test(k.set, f_lent, g_lent, a_lent);
+    is_wanted(r.number, r.place, k)
+}
+
+fn commitment(memory: &[u8], k: Asked) -> bool
+    requires { ⌜ length (now memory) ≡ 36864 ⌝ }
+{
+    let mut out = [whole_fill(k.fill); ENTRIES];
+    let r = committed(memory, k, &mut out);
+    is_rounded(memory, k, r, &out)
+}
+
+fn committed(memory: &[u8], k: Asked, out: &mut [u16]) -> Answer
+    requires { ⌜ length (now memory) ≡ 36864 ⌝ }
+{
+    let a = slots::whole(memory, 3);
+    let y1 = slots::wide(memory, 4);
+    let y2 = slots::wide(memory, 5);
+    let a_lent = first_whole(&a, length_of(memory, 3));
+    let y1_lent = first_wide(&y1, length_of(memory, 4));
+    let y2_lent = first_wide(&y2, length_of(memory, 5));
+    lending::commitment(k.set, a_lent, y1_lent, y2_lent, out, once(k.rounded))
+}
+
+fn is_rounded(memory: &[u8], k: Asked, r: Answer, out: &[u16]) -> bool
+    requires { ⌜ (length (now memory) ≡ 36864) × (length (now out) ≡ 520) ⌝ }
+{
+    if !is_wanted(r.number, r.place, k) {
+        return false;
+    }
+    is_left_whole(memory, 13, k, out, k.rounded)
+}
+
+// An output of whole numbers, against its wanted slot.
+fn is_left_whole(memory: &[u8], slot: usize, k: Asked, out: &[u16], count: u16) -> bool
+    requires { ⌜ (length (now memory) ≡ 36864) × (slot < 18) × (length (now out) ≡ 520) ⌝ }
+{
+    let filled = [whole_fill(k.fill); ENTRIES];
+    let output = slots::packed_whole(out);
+    let old = slots::packed_whole(&filled);
+    is_left(memory, slot, k, &output, &old, twice(count))
+}
+
+fn whole_fill(fill: u8) -> u16 {
+    fill as u16
+}
+
+fn wide_fill(fill: u8) -> i16 {
+    fill as i16
+}
+
+fn once(count: u16) -> usize {
+    count as usize
+}
+
+fn twice(count: u16) -> usize {
+    2 * (count as usize)
+}
+
+fn respond(memory: &[u8], k: Asked) -> bool
+    requires { ⌜ length (now memory) ≡ 36864 ⌝ }
+{
+    let mut z1 = [wide_fill(k.fill); ENTRIES];
+    let mut z2 = [byte_codes::signed8(k.fill); ENTRIES];
+    let r = responded(memory, k, &mut z1, &mut z2);
+    if !is_wanted(r.number, r.place, k) {
+        return false;
+    }
+    if r.words != k.words {
+        return false;
+    }
+    is_pair(memory, k, &z1, &z2)
+}
+
+fn responded(memory: &[u8], k: Asked, z1: &mut [i16], z2: &mut [i8]) -> Response
+    requires { ⌜ length (now memory) ≡ 36864 ⌝ }
+{
+    let f = slots::narrow(memory, 1);
+    let g = slots::narrow(memory, 2);
+    let a = slots::whole(memory, 3);
+    let list = slots::whole(memory, 6);
+    let f_lent = first_narrow(&f, length_of(memory, 1));
+    let g_lent = first_narrow(&g, length_of(memory, 2));
+    let a_lent = first_whole(&a, length_of(memory, 3));
+    let list_lent = first_whole(&list, length_of(memory, 6));
+    drawn(memory, k, f_lent, g_lent, a_lent, list_lent, z1, z2)
+}
+
+fn drawn(
+    memory: &[u8],
+    k: Asked,
+    f: &[i8],
+    g: &[i8],
+    a: &[u16],
+    list: &[u16],
+    z1: &mut [i16],
+    z2: &mut [i8],
+) -> Response
+    requires { ⌜ length (now memory) ≡ 36864 ⌝ }
+{
+    let y1 = slots::wide(memory, 4);
+    let y2 = slots::wide(memory, 5);
+    let thresholds = slots::long(memory, 8);
+    let words = slots::long(memory, 9);
+    let y1_lent = first_wide(&y1, length_of(memory, 4));
+    let y2_lent = first_wide(&y2, length_of(memory, 5));
+    let thresholds_lent = first_long(&thresholds, length_of(memory, 8));
+    let words_lent = first_long(&words, length_of(memory, 9));
+    lending::respond(
+        k.set,
+        f,
+        g,
+        a,
+        y1_lent,
+        y2_lent,
+        list,
+        k.sign,
+        thresholds_lent,
+        words_lent,
+        z1,
+        once(k.z1),
+        z2,
+        once(k.z2),
+    )
+}
+
+fn rebuild(memory: &[u8], k: Asked) -> bool
+    requires { ⌜ length (now memory) ≡ 36864 ⌝ }
+{
+    let mut out = [whole_fill(k.fill); ENTRIES];
+    let r = rebuilt(memory, k, &mut out);
+    is_rounded(memory, k, r, &out)
+}
+
+fn rebuilt(memory: &[u8], k: Asked, out: &mut [u16]) -> Answer
+    requires { ⌜ length (now memory) ≡ 36864 ⌝ }
+{
+    let a = slots::whole(memory, 3);
+    let z1 = slots::wide(memory, 10);
+    let z2 = slots::narrow(memory, 11);
+    let list = slots::whole(memory, 6);
+    let a_lent = first_whole(&a, length_of(memory, 3));
+    let z1_lent = first_wide(&z1, length_of(memory, 10));
+    let z2_lent = first_narrow(&z2, length_of(memory, 11));
+    let list_lent = first_whole(&list, length_of(memory, 6));
+    lending::rebuild(
+        k.set,
+        a_lent,
+        z1_lent,
+        z2_lent,
+        list_lent,
+        out,
+        once(k.rounded),
+    )
+}
+
+fn comparison(memory: &[u8], k: Asked) -> bool
+    requires { ⌜ length (now memory) ≡ 36864 ⌝ }
+{
+    let claimed = slots::whole(memory, 6);
+    let hashed = slots::whole(memory, 7);
+    let claimed_lent = first_whole(&claimed, length_of(memory, 6));
+    let hashed_lent = first_whole(&hashed, length_of(memory, 7));
+    let r = bursztok::bursztok_compare(k.set, claimed_lent, hashed_lent);
+    is_wanted(r.number, r.place, k)
+}
+
+fn write(memory: &[u8], k: Asked) -> bool
+    requires { ⌜ length (now memory) ≡ 36864 ⌝ }
+{
+    let mut out = [k.fill; slots::ROOM];
+    let old = [k.fill; slots::ROOM];
+    let r = written(memory, k, &mut out);
+    if !is_wanted(r.number, r.place, k) {
+        return false;
+    }
+    is_left(memory, 17, k, &out, &old, once(k.output))
+}
+
+fn written(memory: &[u8], k: Asked, out: &mut [u8]) -> Answer
+    requires { ⌜ length (now memory) ≡ 36864 ⌝ }
+{
+    let z1 = slots::wide(memory, 10);
+    let z2 = slots::narrow(memory, 11);
+    let list = slots::whole(memory, 6);
+    let z1_lent = first_wide(&z1, length_of(memory, 10));
+    let z2_lent = first_narrow(&z2, length_of(memory, 11));
+    let list_lent = first_whole(&list, length_of(memory, 6));
+    lending::write(k.set, z1_lent, z2_lent, list_lent, out, once(k.output))
+}
+
+fn read(memory: &[u8], k: Asked) -> bool
+    requires { ⌜ length (now memory) ≡ 36864 ⌝ }
+{
+    let mut z1 = [wide_fill(k.fill); ENTRIES];
+    let mut z2 = [byte_codes::signed8(k.fill); ENTRIES];
+    let mut list = [whole_fill(k.fill); ENTRIES];
+    let r = read_into(memory, k, &mut z1, &mut z2, &mut list);
+    if !is_wanted(r.number, r.place, k) {
+        return false;
+    }
+    if r.set != k.stated {
+        return false;
+    }
+    if !is_pair(memory, k, &z1, &z2) {
+        return false;
+    }
+    is_left_whole(memory, 16, k, &list, k.list)
+}
+
+fn read_into(memory: &[u8], k: Asked, z1: &mut [i16], z2: &mut [i8], list: &mut [u16]) -> Reading
+    requires { ⌜ length (now memory) ≡ 36864 ⌝ }
+{
+    let rec = first_bytes(slots::front(memory, 12, slots::ROOM), length_of(memory, 12));
+    lending::read(rec, z1, once(k.z1), z2, once(k.z2), list, once(k.list))
+}
+
+// The outputs of z1 and z2 dagger.
+fn is_pair(memory: &[u8], k: Asked, z1: &[i16], z2: &[i8]) -> bool
+    requires { ⌜ (length (now memory) ≡ 36864) × (length (now z1) ≡ 520) × (length (now z2) ≡ 520) ⌝ }
+{
+    if !is_left_wide(memory, k, z1) {
+        return false;
+    }
+    is_left_narrow(memory, k, z2)
+}
+
+fn is_left_wide(memory: &[u8], k: Asked, z1: &[i16]) -> bool
+    requires { ⌜ (length (now memory) ≡ 36864) × (length (now z1) ≡ 520) ⌝ }
+{
+    let filled = [wide_fill(k.fill); ENTRIES];
+    let output = slots::packed_wide(z1);
+    let old = slots::packed_wide(&filled);
+    is_left(memory, 14, k, &output, &old, twice(k.z1))
+}
+
+fn is_left_narrow(memory: &[u8], k: Asked, z2: &[i8]) -> bool
+    requires { ⌜ (length (now memory) ≡ 36864) × (length (now z2) ≡ 520) ⌝ }
+{
+    let filled = [byte_codes::signed8(k.fill); ENTRIES];
+    let output = slots::packed_narrow(z2);
+    let old = slots::packed_narrow(&filled);
+    is_left(memory, 15, k, &output, &old, once(k.z2))
+}
+
+fn section(memory: &[u8], which: u8, k: Asked) -> bool
+    requires { ⌜ length (now memory) ≡ 36864 ⌝ }
+{
+    let rec = first_bytes(slots::front(memory, 12, slots::ROOM), length_of(memory, 12));
+    let mut number: u32 = 4294967295;
+    let mut place: u32 = 4294967295;
+    let part = part_of(rec, which, &mut number, &mut place);
+    if !is_wanted(number, place, k) {
+        return false;
+    }
+    if part.start != k.start {
+        return false;
+    }
+    part.length == k.length
+}
+
+fn part_of(rec: &[u8], which: u8, number: &mut u32, place: &mut u32) -> Part {
+    if which == 8 {
+        return bursztok::bursztok_z1_section(rec, number, place);
+    }
+    if which == 9 {
+        return bursztok::bursztok_z2_section(rec, number, place);
+    }
+    bursztok::bursztok_list_section(rec, number, place)
+}

@@ -1,0 +1,169 @@
+// The file, entry by entry.
+ghost use mathlib.Core.Path.{_≡_};
+ghost use Prim.Native.Nat.{_≤_};
+ghost use lib.ListN.{length};
+use crate::answers;
+use crate::answers::Asked;
+use crate::calls;
+use crate::slots;
+use crate::tally;
+
+// What an entry's head says.
+struct Head {
+    what: u8,
+    which: u8,
+    width: u8,
+    start: u16,
+    count: u16,
+}
+
+// All entries, as many as the file states, and then the counts.
+pub fn replay(fd: i32) {
+    let mut memory = [0u8; slots::BYTES];
+    let mut counts = [0u32; tally::COUNTS];
+    let mut left = stated(fd);
+    while 0 < left {
+        if !entry(fd, &mut memory, &mut counts) {
+            tally::text(b"the file is not as its format says\n");
+            return;
+        }
+        left -= 1;
+    }
+    tally::print(&counts);
+}
+
+// The number of entries; 0 where the letters are not BLVECT01.
+fn stated(fd: i32) -> u32 {
+    let mut bytes = [0u8; 16];
+    let got = io::read_full(fd, &mut bytes);
+    if got != 16 {
+        return 0;
+    }
+    if !opens(&bytes) {
+        return 0;
+    }
+    let low = byte_codes::number_at(&bytes, 8) as u32;
+    let high = byte_codes::number_at(&bytes, 10) as u32;
+    low + 65536 * high
+}
+
+fn opens(bytes: &[u8]) -> bool
+    requires { ⌜ length (now bytes) ≡ 16 ⌝ }
+{
+    let letters = b"BLVECT01";
+    let mut i = 0;
+    while i < 8 {
+        if bytes[i] != letters[i] {
+            return false;
+        }
+        i += 1;
+    }
+    true
+}
+
+// One entry: a load, a patch or a call. False where it is none.
+fn entry(fd: i32, memory: &mut [u8], counts: &mut [u32]) -> bool
+    requires { ⌜ (length (now memory) ≡ 36864) × (length (now counts) ≡ 176) ⌝ }
+{
+    let mut bytes = [0u8; 8];
+    let got = io::read_full(fd, &mut bytes);
+    if got != 8 {
+        return false;
+    }
+    let h = Head {
+        what: bytes[0],
+        which: bytes[1],
+        width: bytes[2],
+        start: byte_codes::number_at(&bytes, 4),
+        count: byte_codes::number_at(&bytes, 6),
+    };
+    if h.what == 3 {
+        return called(fd, h.which, memory, counts);
+    }
+    load(fd, h, memory)
+}
+
+// The elements go to the slot's bytes, and a load sets the slot's length.
+fn load(fd: i32, h: Head, memory: &mut [u8]) -> bool
+    requires { ⌜ length (now memory) ≡ 36864 ⌝ }
+{
+    let slot = h.which as usize;
+    let from = scaled(h.width, h.start);
+    let count = scaled(h.width, h.count);
+    if slot < 1 {
+        return false;
+    }
+    if 17 < slot {
+        return false;
+    }
+    if slots::ROOM < from + count {
+        return false;
+    }
+    let begin = slots::ROOM * slot + from;
+    let end = begin + count;
+    let got = io::read_full(fd, &mut memory[begin..end]);
+    if h.what != 1 {
+        return got == count;
+    }
+    byte_codes::put_number(
+        memory,
+        2 * slot,
+        std::num::wrapping_add_u16(h.start, h.count),
+    );
+    got == count
+}
+
+// The bytes of so many elements of a width; more than any slot has where it is no width.
+fn scaled(width: u8, count: u16) -> usize
+    ensures { λ r. ⌜ r ≤ 524280 ⌝ }
+{
+    let n = count as usize;
+    if width == 1 {
+        return n;
+    }
+    if width == 2 {
+        return 2 * n;
+    }
+    if width == 8 {
+        return 8 * n;
+    }
+    524280
+}
+
+fn called(fd: i32, which: u8, memory: &[u8], counts: &mut [u32]) -> bool
+    requires { ⌜ (length (now memory) ≡ 36864) × (length (now counts) ≡ 176) ⌝ }
+{
+    let mut bytes = [0u8; 26];
+    let got = io::read_full(fd, &mut bytes);
+    if got != 26 {
+        return false;
+    }
+    let k = answers::asked_in(&bytes);
+    if calls::call(memory, which, k) {
+        count(which, k.number, counts);
+    } else {
+        missed(which, k, counts);
+    }
+    true
+}
+
+// A call that did as wanted; only calls 1 to 10 do, with numbers below 16.
+fn count(which: u8, number: u32, counts: &mut [u32])
+    requires { ⌜ length (now counts) ≡ 176 ⌝ }
+{
+    let at = 16 * (which as usize) + (number as usize) % 16;
+    if at < tally::COUNTS {
+        tally::add(counts, at);
+    }
+}
+
+fn missed(which: u8, k: Asked, counts: &mut [u32])
+    requires { ⌜ length (now counts) ≡ 176 ⌝ }
+{
+    tally::text(b"call ");
+    tally::number(which as u64);
+    tally::text(b", number ");
+    tally::number(k.number as u64);
+    tally::text(b" wanted: FAILED\n");
+    tally::add(counts, 0);
+}

@@ -1,0 +1,51 @@
+// How often each call gave each number: the count of call c and number n stands at 16 c + n, and that of the calls that failed at 0.
+ghost use mathlib.Core.Path.{_≡_};
+ghost use Prim.Native.Nat.{_<_};
+ghost use lib.ListN.{length};
+use libc::STDOUT_FILENO;
+
+pub const COUNTS: usize = 176;
+
+pub fn add(counts: &mut [u32], at: usize)
+    requires { ⌜ (length (now counts) ≡ 176) × (at < 176) ⌝ }
+{
+    counts[at] = std::num::wrapping_add_u32(counts[at], 1);
+}
+
+pub fn print(counts: &[u32])
+    requires { ⌜ length (now counts) ≡ 176 ⌝ }
+{
+    let mut sum: u64 = 0;
+    for i in 16..176 {
+        sum = std::num::wrapping_add_u64(sum, line(i, counts[i]));
+    }
+    number(sum);
+    text(b" passed, ");
+    number(wide(counts[0]));
+    text(b" failed\n");
+}
+
+fn line(at: usize, count: u32) -> u64 {
+    if 0 < count {
+        text(b"call ");
+        number((at / 16) as u64);
+        text(b", number ");
+        number((at % 16) as u64);
+        text(b": ");
+        number(count as u64);
+        text(b"\n");
+    }
+    count as u64
+}
+
+fn wide(n: u32) -> u64 {
+    n as u64
+}
+
+pub fn number(n: u64) {
+    io::print_decimal(STDOUT_FILENO, n);
+}
+
+pub fn text(t: &[u8]) {
+    io::write_all(STDOUT_FILENO, t);
+}
