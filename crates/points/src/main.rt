@@ -4,12 +4,14 @@ mod commitments;
 mod comparisons;
 mod key_tests;
 mod rebuilds;
+mod responses;
 mod rows;
 mod show;
 
 fn main() {
     key_tests::run();
     commitments::run();
+    responses::run();
     rebuilds::run();
     comparisons::run();
 }
