@@ -27,7 +27,7 @@ pub fn filled(text: &[u8], r: Answer, out: &[u16]) {
     start(text, r);
     if r.number == 0 {
         print(b", gives");
-        runs(lending::first_whole(out, Set::DIMENSION));
+        runs(crate::first_whole(out, Set::DIMENSION));
     } else {
         if all_old(out) {
             print(b", untouched");
@@ -59,7 +59,7 @@ pub fn response(text: &[u8], r: Response, z1: &[i16], z2: &[i16]) {
 }
 
 fn entries(z1: &[i16], z2: &[i16]) {
-    let front = lending::first_wide(z1, 23);
+    let front = crate::first_wide(z1, 23);
     print(b", z1 is -1 at ");
     number(count(front, -1));
     print(b" and 1 at ");

@@ -1,8 +1,8 @@
 use Prim.Native.Nat.{_-_, _≤_}
 use lib.ListN.{length}
 use borrow.Author.Needs.{needs}
-use Rattle.points.proofs.show.count.Statement.{statement}
-use Rattle.points.proofs.show.count.Tie as tie
+use Rattle.lending.proofs.show.count.Statement.{statement}
+use Rattle.lending.proofs.show.count.Tie as tie
 
 abbrev Inv-loop : tie.InvT-loop
 Inv-loop row x n₀ i₀ n i = i ≤ length row

@@ -1,8 +1,8 @@
 // The response on 01's reference point: set 1, f = 1, g = 0, a = 1, masks zero, list 0 to 22. The first trial is of 17,779 with 8 set places, the second of 92
 // with 4.
-use crate::rows;
-use crate::show;
 use bursztok::Response;
+use lending::rows;
+use lending::show;
 use sets::Set;
 
 pub fn run() {
