@@ -3,6 +3,8 @@ RT ?= rt
 CC ?= cc
 TIME ?= 600
 CASES ?= 3000
+LIBRARY = target/staticlib/libbursztok.a
+SOURCES = $(shell find crates -name '*.rt' -o -name '*.antt')
 CARGO = cd host && cargo
 RUN = $(CARGO) run --quiet --release --offline --bin
 
@@ -17,8 +19,12 @@ test: ## proves every crate and tries the library; the last line is 'N passed, 0
 check: toolchain ## proves what has changed since the last check
 	$(RT) check
 
-lib: toolchain ## makes target/staticlib/libbursztok.a; its header is include/bursztok.h
-	@$(RT) staticlib bursztok
+lib: toolchain $(LIBRARY) ## makes target/staticlib/libbursztok.a; its header is include/bursztok.h
+
+$(LIBRARY): crates.txt $(SOURCES)
+	@echo "proving what has changed and building $(LIBRARY) (some minutes the first time)"
+	@mkdir -p target/log
+	@$(RT) staticlib bursztok >target/log/library.log 2>&1 || { tail -n 30 target/log/library.log; exit 1; }
 
 demo: lib ## signs a sheet on one side and checks it on the other, and shows damaged records refused
 	@$(RUN) bursztok -- demo
@@ -28,7 +34,7 @@ host-test: lib ## the tests of host/, and CASES random cases of the library agai
 	@$(RUN) bursztok-compare -- --cases $(CASES)
 
 example: lib ## compiles and runs examples/sheet.c
-	@$(CC) -std=c99 -Wall -Wextra -Werror -pedantic -I include examples/sheet.c target/staticlib/libbursztok.a -o target/sheet
+	@$(CC) -std=c99 -Wall -Wextra -Werror -pedantic -I include examples/sheet.c $(LIBRARY) -o target/sheet
 	@target/sheet
 
 bench: lib ## calls a second beside the second program, and instructions by callgrind

@@ -1,4 +1,7 @@
-// Calls of the library on the first entries of rows, for the programs that try them.
+// For the programs that try the library: its calls on the first entries of rows, rows that cases are made of, and what a case prints.
+pub mod rows;
+pub mod show;
+
 ghost use Prim.Native.Nat.{_≤_};
 use bursztok::Answer;
 use bursztok::Reading;

@@ -1,5 +1,5 @@
 // The commitment.
-use crate::show;
+use lending::show;
 use sets::Set;
 
 pub fn run() {

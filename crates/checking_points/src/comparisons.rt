@@ -1,8 +1,8 @@
 // The comparison.
 ghost use Prim.Native.Nat.{_<_};
-use crate::rows;
-use crate::show;
 use bursztok::bursztok_compare;
+use lending::rows;
+use lending::show;
 
 pub fn run() {
     show::heading(b"comparison of 0, 1, 2, .. with itself, changed");

@@ -3,8 +3,8 @@ use mathlib.Core.Path.{_≡_}
 use native.Mathlib.Omega.{arith}
 use lib.ListN.{length, length-set}
 use borrow.Author.Needs.{needs}
-use Rattle.points.proofs.rows.places.Statement.{statement}
-use Rattle.points.proofs.rows.places.Tie as tie
+use Rattle.lending.proofs.rows.places.Statement.{statement}
+use Rattle.lending.proofs.rows.places.Tie as tie
 
 abbrev Inv-loop : tie.InvT-loop
 Inv-loop at place list₀ i₀ list i = (i ≤ 40) × (length list ≡ 40)

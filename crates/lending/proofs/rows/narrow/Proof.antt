@@ -3,8 +3,8 @@ use mathlib.Core.Path.{_≡_}
 use native.Mathlib.Omega.{arith}
 use lib.ListN.{length, length-set}
 use borrow.Author.Needs.{needs}
-use Rattle.points.proofs.rows.wide.Statement.{statement}
-use Rattle.points.proofs.rows.wide.Tie as tie
+use Rattle.lending.proofs.rows.narrow.Statement.{statement}
+use Rattle.lending.proofs.rows.narrow.Tie as tie
 
 abbrev Inv-loop : tie.InvT-loop
 Inv-loop count entry row₀ i₀ row i = (i ≤ count) × (length row ≡ 512)
@@ -14,9 +14,6 @@ abbrev μ-loop : tie.MeasureT-loop
 
 loop-holds : tie.Need-loop-holds Inv-loop μ-loop
 loop-holds c = search needs
-
-mul-row : tie.Need-mul-row Inv-loop μ-loop
-mul-row c = search needs
 
 array-set-from-row : tie.Need-array-set-from-row Inv-loop μ-loop
 array-set-from-row c = search needs
@@ -33,16 +30,7 @@ loop-again c = (omega arith, simp length-set (omega arith))
 returns : tie.Need-returns Inv-loop μ-loop
 returns c = search needs
 
-pub wide-spec : {M : Type 1} → statement M
-wide-spec =
+pub narrow-spec : {M : Type 1} → statement M
+narrow-spec =
     tie.close
-    (tie.spec
-    Inv-loop
-    μ-loop
-    loop-holds
-    mul-row
-    array-set-from-row
-    add-i
-    loop-less
-    loop-again
-    returns)
+    (tie.spec Inv-loop μ-loop loop-holds array-set-from-row add-i loop-less loop-again returns)

@@ -1,7 +1,7 @@
 // The rebuild.
 ghost use Prim.Native.Nat.{_≤_, _<_};
-use crate::rows;
-use crate::show;
+use lending::rows;
+use lending::show;
 use sets::Set;
 
 pub fn run() {

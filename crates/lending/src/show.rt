@@ -2,11 +2,14 @@
 ghost use Prim.Native.Nat.{_≤_, _<_};
 ghost use lib.ListN.{length};
 use bursztok::Answer;
+use bursztok::Response;
 use libc::STDOUT_FILENO;
 use sets::Set;
 
 // What output vectors hold before a call: no call writes it.
 pub const OLD: u16 = 9999;
+
+pub const OLD_ENTRY: i16 = 99;
 
 pub fn heading(text: &[u8]) {
     print(text);
@@ -24,7 +27,7 @@ pub fn filled(text: &[u8], r: Answer, out: &[u16]) {
     start(text, r);
     if r.number == 0 {
         print(b", gives");
-        runs(lending::first_whole(out, Set::DIMENSION));
+        runs(crate::first_whole(out, Set::DIMENSION));
     } else {
         if all_old(out) {
             print(b", untouched");
@@ -33,6 +36,65 @@ pub fn filled(text: &[u8], r: Answer, out: &[u16]) {
         }
     }
     print(b"\n");
+}
+
+// A response to the list 0 to 22.
+pub fn response(text: &[u8], r: Response, z1: &[i16], z2: &[i16]) {
+    start(
+        text,
+        Answer {
+            number: r.number,
+            place: r.place,
+        },
+    );
+    print(b", ");
+    number(r.words);
+    print(b" words");
+    if r.number == 0 {
+        entries(z1, z2);
+    } else {
+        kept(z1, z2);
+    }
+    print(b"\n");
+}
+
+fn entries(z1: &[i16], z2: &[i16]) {
+    let front = crate::first_wide(z1, 23);
+    print(b", z1 is -1 at ");
+    number(count(front, -1));
+    print(b" and 1 at ");
+    number(count(front, 1));
+    print(b" of places 0 to 22, 0 at ");
+    number(count(z1, 0));
+    print(b"; z2 dagger is 0 at ");
+    number(count(z2, 0));
+}
+
+fn kept(z1: &[i16], z2: &[i16]) {
+    if count(z1, OLD_ENTRY) != 512 {
+        print(b", WRITTEN");
+        return;
+    }
+    if count(z2, OLD_ENTRY) != 512 {
+        print(b", WRITTEN");
+        return;
+    }
+    print(b", untouched");
+}
+
+// How many entries of a row are x.
+fn count(row: &[i16], x: i16) -> u64 {
+    let mut n: u64 = 0;
+    let mut i = 0;
+    while i < row.len() {
+        n = std::num::wrapping_add_u64(n, is(row[i], x));
+        i += 1;
+    }
+    n
+}
+
+fn is(entry: i16, x: i16) -> u64 {
+    if entry == x { 1 } else { 0 }
 }
 
 fn start(text: &[u8], r: Answer) {

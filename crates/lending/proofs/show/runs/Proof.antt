@@ -1,8 +1,8 @@
 use Prim.Native.Nat.{_-_, _≤_}
 use lib.ListN.{length}
 use borrow.Author.Needs.{needs}
-use Rattle.points.proofs.show.runs.Statement.{statement}
-use Rattle.points.proofs.show.runs.Tie as tie
+use Rattle.lending.proofs.show.runs.Statement.{statement}
+use Rattle.lending.proofs.show.runs.Tie as tie
 
 abbrev Inv-loop : tie.InvT-loop
 Inv-loop row count₀ i₀ count i = (i ≤ length row) × (count ≤ i)

@@ -1,8 +1,8 @@
 // The key test.
 ghost use Prim.Native.Nat.{_≤_, _<_};
-use crate::rows;
-use crate::show;
 use bursztok::bursztok_key_test;
+use lending::rows;
+use lending::show;
 use sets::Set;
 
 pub fn run() {
