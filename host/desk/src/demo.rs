@@ -16,7 +16,10 @@ use std::io::Write;
 use std::path::{Path, PathBuf};
 use std::time::{Duration, Instant};
 
+/// The sheet, and the same with its figure changed.
 const SHEET: &str = "Custody transfer 4711: 138,240.7 m3 of LNG at -161.2 C, berth 3, 06:40.";
+const CHANGED_SHEET: &str =
+    "Custody transfer 4711: 138,420.7 m3 of LNG at -161.2 C, berth 3, 06:40.";
 
 pub fn demo(arguments: &Arguments) -> Result<(), Failure> {
     let number = arguments.number_or("set", 1)?;
@@ -245,8 +248,7 @@ fn show_damage(set: Set, key: &Key, record: &[u8], signature: &Signature) -> Res
         5,
         with(record.len() - 1, 0xff),
     )?;
-    let other = SHEET.replace("18,240.7", "18,420.7");
-    let outcome = check(set, key, signature, &other).map(|_| ());
+    let outcome = check(set, key, signature, CHANGED_SHEET).map(|_| ());
     show("the sheet's figure changed, the record whole", 12, outcome)
 }
 
