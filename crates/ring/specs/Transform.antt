@@ -4,13 +4,13 @@ use mathlib.Core.List.{List, [], _∷_, _++_, map}
 use Prim.Native.Nat.{ℕ, zero, suc, _+_, _-_, _/_, _%_, _≤_}
 use lib.ListN.{length, getD, take, drop, replicate}
 use Rattle.laws.specs.Lists.{zipWith}
-use Rattle.sets.specs.Numbers.{modulus}
+use Rattle.sets.specs.Numbers.{dimension, modulus}
 use Rattle.polynomials.specs.Field.{add, mul}
 use Rattle.ring.specs.Powers.{power}
 
--- x - y modulo q: 12288 is -1
+-- x - y modulo q: q - 1 is -1
 abbrev pub sub : ℕ → ℕ → ℕ
-sub x y = add x (mul 12288 y)
+sub x y = add x (mul (modulus - 1) y)
 
 -- every entry is at most the bound
 abbrev pub Within : ℕ → List ℕ → Type 0
@@ -53,11 +53,11 @@ unfoldable pub remainders : ℕ → ℕ → List ℕ → List ℕ
 remainders zero e f = f
 remainders (suc k) e f =
     remainders k (e / 2) (low (size k) (power (e / 2)) f)
-    ++ remainders k (e / 2 + 512) (high (size k) (power (e / 2)) f)
+    ++ remainders k (e / 2 + dimension) (high (size k) (power (e / 2)) f)
 
 -- the spectrum of a key: -1 is 49^512
 unfoldable pub spectrumOf : List ℕ → List ℕ
-spectrumOf a = remainders 6 512 (map (λ x. x % modulus) a)
+spectrumOf a = remainders 6 dimension (map (λ x. x % modulus) a)
 
 -- ---- products of remainders
 
@@ -72,6 +72,6 @@ joined v l r = zipWith add l r ++ zipWith (back v) l r
 unfoldable pub convolution : ℕ → ℕ → List ℕ → List ℕ → List ℕ
 convolution zero e f g = productModulo (power e) f g
 convolution (suc k) e f g =
-    joined (power (512 - e / 2))
+    joined (power (dimension - e / 2))
     (convolution k (e / 2) (take (size k) f) (low (size k) (power (e / 2)) g))
-    (convolution k (e / 2 + 512) (drop (size k) f) (high (size k) (power (e / 2)) g))
+    (convolution k (e / 2 + dimension) (drop (size k) f) (high (size k) (power (e / 2)) g))

@@ -60,7 +60,7 @@ fn transform_by(a: &[u16], spectrum: &mut [u16], powers: &[u16])
     ensures { λ _. ⌜ now (spectrum .exit) ≡ spectrumOf (now (a .entry)) ⌝ }
 {
     residues(spectrum, a);
-    decompose(spectrum, 6, 512, powers);
+    decompose(spectrum, 6, Set::DIMENSION, powers);
 }
 
 fn multiply_by(a: &[u16], spectrum: &[u16], z: &[i16], out: &mut [u16], powers: &[u16])
@@ -68,7 +68,7 @@ fn multiply_by(a: &[u16], spectrum: &[u16], z: &[i16], out: &mut [u16], powers: 
     ensures { λ _. ⌜ now (out .exit) ≡ product (now (a .entry)) (now (z .entry)) ⌝ }
 {
     signed_residues(out, z);
-    convolve(out, spectrum, 6, 512, powers);
+    convolve(out, spectrum, 6, Set::DIMENSION, powers);
     rescale(out);
 }
 
@@ -135,7 +135,7 @@ fn decompose(s: &mut [u16], k: usize, e: usize, powers: &[u16])
         let f = e / 2;
         split(s, h, powers[f]);
         decompose(&mut s[..h], k - 1, f, powers);
-        decompose(&mut s[h..], k - 1, f + 512, powers);
+        decompose(&mut s[h..], k - 1, f + Set::DIMENSION, powers);
     }
 }
 
@@ -149,8 +149,8 @@ fn convolve(s: &mut [u16], f: &[u16], k: usize, e: usize, powers: &[u16])
         let d = e / 2;
         split(s, h, powers[d]);
         convolve(&mut s[..h], &f[..h], k - 1, d, powers);
-        convolve(&mut s[h..], &f[h..], k - 1, d + 512, powers);
-        join(s, h, powers[512 - d]);
+        convolve(&mut s[h..], &f[h..], k - 1, d + Set::DIMENSION, powers);
+        join(s, h, powers[Set::DIMENSION - d]);
     } else {
         block(s, f, powers[e]);
     }
