@@ -11,7 +11,6 @@ use crate::slots::length_of;
 use bursztok::Answer;
 use bursztok::Part;
 use bursztok::Reading;
-use bursztok::Response;
 use lending::first_bytes;
 use lending::first_long;
 use lending::first_narrow;
@@ -108,17 +107,13 @@ fn respond(memory: &[u8], k: Asked) -> bool
 {
     let mut z1 = [wide_fill(k.fill); ENTRIES];
     let mut z2 = [byte_codes::signed8(k.fill); ENTRIES];
-    let r = responded(memory, k, &mut z1, &mut z2);
-    if !is_wanted(r.number, r.place, k) {
-        return false;
-    }
-    if r.words != k.words {
+    if !is_responded(memory, k, &mut z1, &mut z2) {
         return false;
     }
     is_pair(memory, k, &z1, &z2)
 }
 
-fn responded(memory: &[u8], k: Asked, z1: &mut [i16], z2: &mut [i8]) -> Response
+fn is_responded(memory: &[u8], k: Asked, z1: &mut [i16], z2: &mut [i8]) -> bool
     requires { ⌜ length (now memory) ≡ 36864 ⌝ }
 {
     let f = slots::narrow(memory, 1);
@@ -129,10 +124,11 @@ fn responded(memory: &[u8], k: Asked, z1: &mut [i16], z2: &mut [i8]) -> Response
     let g_lent = first_narrow(&g, length_of(memory, 2));
     let a_lent = first_whole(&a, length_of(memory, 3));
     let list_lent = first_whole(&list, length_of(memory, 6));
-    drawn(memory, k, f_lent, g_lent, a_lent, list_lent, z1, z2)
+    is_drawn(memory, k, f_lent, g_lent, a_lent, list_lent, z1, z2)
 }
 
-fn drawn(
+// Whether the response is the wanted one, and what it gives out is accepted.
+fn is_drawn(
     memory: &[u8],
     k: Asked,
     f: &[i8],
@@ -141,7 +137,7 @@ fn drawn(
     list: &[u16],
     z1: &mut [i16],
     z2: &mut [i8],
-) -> Response
+) -> bool
     requires { ⌜ length (now memory) ≡ 36864 ⌝ }
 {
     let y1 = slots::wide(memory, 4);
@@ -152,7 +148,7 @@ fn drawn(
     let y2_lent = first_wide(&y2, length_of(memory, 5));
     let thresholds_lent = first_long(&thresholds, length_of(memory, 8));
     let words_lent = first_long(&words, length_of(memory, 9));
-    lending::respond(
+    let r = lending::respond(
         k.set,
         f,
         g,
@@ -167,6 +163,24 @@ fn drawn(
         once(k.z1),
         z2,
         once(k.z2),
+    );
+    if !is_wanted(r.number, r.place, k) {
+        return false;
+    }
+    if r.words != k.words {
+        return false;
+    }
+    agreement::agrees(
+        k.set,
+        f,
+        g,
+        a,
+        y1_lent,
+        y2_lent,
+        list,
+        k.sign,
+        thresholds_lent,
+        words_lent,
     )
 }
 

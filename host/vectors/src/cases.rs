@@ -15,6 +15,9 @@ use second::testing::noise::Noise;
 use second::testing::sheet::{sign, Signature, Signed, Try};
 use second::Set;
 
+/// Keys of each set beside the first, which has the refusals.
+const MORE_KEYS: u8 = 8;
+
 /// The file of vectors that this seed makes.
 pub fn vectors(seed: u64) -> Vec<u8> {
     let mut recorder = Recorder::default();
@@ -39,6 +42,7 @@ pub fn vectors(seed: u64) -> Vec<u8> {
         recording.reader_refusals(&signed.signature);
         recording.sums();
         recording.other_keys();
+        recording.more_keys();
     }
     recorder.finish()
 }
@@ -546,6 +550,16 @@ impl Recording<'_> {
             load_key(self.recorder, &key);
             self.call(Call::KeyTest);
             self.attempt(&attempt);
+        }
+    }
+
+    /// Keys as they are made for signing: key test and a sheet each.
+    fn more_keys(&mut self) {
+        for number in 0..MORE_KEYS {
+            self.key = keys::published(self.set, &mut self.noise);
+            load_key(self.recorder, &self.key);
+            self.call(Call::KeyTest);
+            self.sheet(&[number]);
         }
     }
 }
