@@ -18,7 +18,8 @@ use std::time::{Duration, Instant};
 
 /// The sheet, and the same with its figure changed.
 const SHEET: &str = "Custody transfer 4711: 138,240.7 m3 of LNG at -161.2 C, berth 3, 06:40.";
-const CHANGED_SHEET: &str = "Custody transfer 4711: 138,420.7 m3 of LNG at -161.2 C, berth 3, 06:40.";
+const CHANGED_SHEET: &str =
+    "Custody transfer 4711: 138,420.7 m3 of LNG at -161.2 C, berth 3, 06:40.";
 
 pub fn demo(arguments: &Arguments) -> Result<(), Failure> {
     let number = arguments.number_or("set", 1)?;
