@@ -1,9 +1,13 @@
 # The project's commands. `make` alone lists them.
 RT ?= rt
 CC ?= cc
+override RT := $(or $(abspath $(shell command -v $(RT))),$(RT))
+export RT CC
 TIME ?= 600
 CASES ?= 3000
 LIBRARY = target/staticlib/libbursztok.a
+# The library links into x86-64 programs only. On another machine host/ asks a bridge that has it linked and runs under an emulator.
+BRIDGE = $(shell tools/x86-64 here || echo target/staticlib/bridge)
 SOURCES = $(shell find crates -name '*.rt' -o -name '*.antt')
 CARGO = cd host && cargo
 RUN = $(CARGO) run --quiet --release --offline --bin
@@ -14,17 +18,20 @@ help: ## lists the targets
 	@sed -n 's/^\([a-z-]*\):.*## /\1|/p' Makefile | awk -F'|' '{ printf "make %-10s %s\n", $$1, $$2 }'
 
 test: ## proves every crate and tries the library; the last line is 'N passed, 0 failed'
-	@RT="$(RT)" CC="$(CC)" tools/test
+	@tools/test
 
 check: toolchain ## proves what has changed since the last check
 	$(RT) check
 
-lib: toolchain $(LIBRARY) ## makes target/staticlib/libbursztok.a; its header is include/bursztok.h
+lib: toolchain $(LIBRARY) $(BRIDGE) ## makes target/staticlib/libbursztok.a; its header is include/bursztok.h
 
 $(LIBRARY): crates.txt $(SOURCES)
 	@echo "proving what has changed and building $(LIBRARY) (some minutes the first time)"
 	@mkdir -p target/log
 	@$(RT) staticlib bursztok >target/log/library.log 2>&1 || { tail -n 30 target/log/library.log; exit 1; }
+
+target/staticlib/bridge: $(LIBRARY) host/bindings/bridge.c include/bursztok.h
+	@tools/x86-64 compile $@ host/bindings/bridge.c $(LIBRARY)
 
 demo: lib ## signs a sheet on one side and checks it on the other, and shows damaged records refused
 	@$(RUN) bursztok -- demo
@@ -34,10 +41,11 @@ host-test: lib ## the tests of host/, and CASES random cases of the library agai
 	@$(RUN) bursztok-compare -- --cases $(CASES)
 
 example: lib ## compiles and runs examples/sheet.c
-	@$(CC) -std=c99 -Wall -Wextra -Werror -pedantic -I include examples/sheet.c $(LIBRARY) -o target/sheet
-	@target/sheet
+	@tools/x86-64 compile target/sheet examples/sheet.c $(LIBRARY)
+	@tools/x86-64 run target/sheet
 
-bench: lib ## calls a second beside the second program, and instructions by callgrind
+bench: lib ## calls a second beside the second program, and instructions by callgrind (on x86-64)
+	@tools/x86-64 here || { echo "not an x86-64 machine: the library runs under an emulator here, and what is measured would say nothing"; exit 1; }
 	@$(RUN) bursztok-bench
 	@$(RUN) bursztok-bench -- --instructions
 	@$(RT) check ring_bench choices_bench

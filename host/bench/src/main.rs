@@ -46,6 +46,9 @@ fn main() -> ExitCode {
         println!("{USAGE}");
         return ExitCode::SUCCESS;
     }
+    if !cfg!(target_arch = "x86_64") {
+        eprintln!("bench: the library runs under an emulator here, so its times say nothing");
+    }
     match parse(&words) {
         Ok(options) => run(&options),
         Err(message) => {

@@ -1,7 +1,10 @@
 //! The declarations of `include/bursztok.h`.
 //!
 //! Slices are declared as a pointer and a length: a `&[T]` in an `extern "C"` declaration is not
-//! passed as C passes the two.
+//! passed as C passes the two. On a machine that is not x86-64, `served` has the same calls.
+
+#[cfg(not(target_arch = "x86_64"))]
+pub use crate::served::*;
 
 #[repr(C)]
 pub struct Answer {
@@ -29,6 +32,7 @@ pub struct Part {
     pub length: u64,
 }
 
+#[cfg(target_arch = "x86_64")]
 extern "C" {
     pub fn bursztok_key_test(
         set: u32,

@@ -6,6 +6,8 @@
 
 mod foreign;
 mod refusal;
+#[cfg(not(target_arch = "x86_64"))]
+mod served;
 
 pub use refusal::Refusal;
 
