@@ -6,13 +6,13 @@ use Prim.Native.Nat.{ℕ, zero, suc, _+_, _*_, _-_, _^_, _<_, _≤_}
 use native.Mathlib.Omega.{arith}
 use lib.Dec.{T, leb}
 use lib.IntN.{ℤ, pos, negsuc, negℤ, natAbs, _+ℤ_, _-ℤ_, _*ℤ_}
-use lib.Signed.{mag, nonNeg, ltZ, leZ}
+use lib.Signed.{mag, nonNeg, ltZ, leZ, pos-natAbs}
 use mir.Syntax.{Width}
 use mir.Val.{SFits, Fits, bits, hbits, toZ, ofZ}
 use mir.Facts.{toZ-ofZ, sfits-widen}
-use mir.ValLaws.{toZ-pos, toZ-neg}
-use Rattle.laws.proofs.Bounds.{abs-add, abs-sub, abs-mul, mag-abs}
-use Rattle.laws.proofs.Linear.{above, under}
+use mir.ValLaws.{toZ-pos, toZ-neg, half-full}
+use Rattle.laws.proofs.Bounds.{abs-add, abs-sub, abs-mul, mag-abs, abs-mag}
+use Rattle.laws.proofs.Linear.{above, under, size, size-le, sum, nonneg, above-mag}
 
 pub record Reads (w : Width) (n : ℕ) (z : ℤ) : Type 0 where
   pub back : toZ w n ≡ z
@@ -92,6 +92,42 @@ module _ {w w′ : Width} {x : ℤ} (wider : T (leb (hbits w) (hbits w′))) (f 
 
 pub unsigned-is : {w : Width} {n : ℕ} {x : ℤ} → Reads w n x → natAbs (toZ w n) ≡ natAbs x
 unsigned-is p = ap natAbs (p .back)
+
+-- ---- made positive: a number, cast to a wider type, and n, at least the size of the least number of its own, cast to an unsigned type
+module _ {w w′ : Width} {x : ℤ} {m n : ℕ} (f : SFits w x) (q : Reads w′ m (pos n)) (above-least : 2 ^ hbits w ≤ n) (room : n + 2 ^ hbits w < 2 ^ hbits w′) where
+  small : natAbs x ≤ 2 ^ hbits w
+  small = omega (arith, abs-mag x, f .sfits)
+
+  wide : Reads w′ (ofZ w′ (toZ w (ofZ w x))) x
+  wide = cast-is (given f) w′ (fits (omega (arith, small)))
+
+  abbrev lifted : ℕ
+  lifted = ofZ w′ (toZ w′ (ofZ w′ (toZ w (ofZ w x))) +ℤ toZ w′ m)
+
+  reads : Reads w′ lifted (x +ℤ pos n)
+  reads = add-is wide q (omega (arith, small))
+
+  positive-sum : T (nonNeg (x +ℤ pos n))
+  positive-sum = nonneg (x +ℤ pos n) (omega (arith, sum x (pos n), size x, small))
+
+  pub lift-cast : SFits w′ (toZ w (ofZ w x))
+  lift-cast = cast-ok (given f) w′ (fits (omega (arith, small)))
+
+  pub lift-add : SFits w′ (toZ w′ (ofZ w′ (toZ w (ofZ w x))) +ℤ toZ w′ m)
+  lift-add = add-ok wide q (omega (arith, small))
+
+  pub lift-size : natAbs (toZ w′ lifted) < n + 2 ^ hbits w
+  lift-size =
+      let most : above x < 2 ^ hbits w = omega (arith, above-mag x, f .sfits) in
+      let bound : natAbs (x +ℤ pos n) ≤ n + above x =
+      size-le (x +ℤ pos n) (n + above x) (omega (arith, sum x (pos n))) (omega (arith, sum x (pos n), size x, small)) in
+      omega (arith, unsigned-is reads)
+
+  pub lift-unsigned : T (nonNeg (toZ w′ lifted)) × Fits w′ (natAbs (toZ w′ lifted))
+  lift-unsigned = unsigned-ok reads w′ positive-sum (half-full w′ (omega (arith, unsigned-is reads, lift-size)))
+
+  pub lift-is : pos (natAbs (toZ w′ lifted)) ≡ x +ℤ pos n
+  lift-is = ap pos (unsigned-is reads) ∙ pos-natAbs _ positive-sum
 
 -- ---- tests: what a flag says of the numbers
 module _ {w : Width} {n m : ℕ} {x y : ℤ} (p : Reads w n x) (q : Reads w m y) {b : Bool} where

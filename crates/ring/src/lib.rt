@@ -3,7 +3,7 @@ mod table;
 
 ghost use mathlib.Core.Path.{_≡_};
 ghost use mathlib.Core.List.{_∷_, _++_, map};
-ghost use Prim.Native.Nat.{_+_, _*_, _/_, _%_, _<_, _≤_};
+ghost use Prim.Native.Nat.{_+_, _*_, _-_, _/_, _%_, _<_, _≤_};
 ghost use lib.ListN.{length, getD, take, drop};
 ghost use Rattle.laws.specs.Integers.{residue};
 ghost use Rattle.laws.specs.Lists.{zipWith};
@@ -127,7 +127,7 @@ fn rescale(s: &mut [u16])
 
 // s, of size k, taken apart into its remainders of 8 coefficients, modulo x^(size k) - 49^e.
 fn decompose(s: &mut [u16], k: usize, e: usize, powers: &[u16])
-    requires { ⌜ (length (now s) ≡ size k) × (e < 1024) × Powers (now powers) × Within 12288 (now s) ⌝ }
+    requires { ⌜ (length (now s) ≡ size k) × (e < dimension + dimension) × Powers (now powers) × Within (modulus - 1) (now s) ⌝ }
     ensures { λ _. ⌜ now (s .exit) ≡ remainders k e (now (s .entry)) ⌝ }
 {
     if 0 < k {
@@ -141,7 +141,7 @@ fn decompose(s: &mut [u16], k: usize, e: usize, powers: &[u16])
 
 // s times what f are the remainders of, modulo x^(size k) - 49^e, and doubled k times.
 fn convolve(s: &mut [u16], f: &[u16], k: usize, e: usize, powers: &[u16])
-    requires { ⌜ (length (now s) ≡ size k) × (length (now f) ≡ size k) × (e < 1024) × Powers (now powers) × Within 12288 (now s) × Within 12288 (now f) ⌝ }
+    requires { ⌜ (length (now s) ≡ size k) × (length (now f) ≡ size k) × (e < dimension + dimension) × Powers (now powers) × Within (modulus - 1) (now s) × Within (modulus - 1) (now f) ⌝ }
     ensures { λ _. ⌜ now (s .exit) ≡ convolution k e (now (f .entry)) (now (s .entry)) ⌝ }
 {
     if 0 < k {
@@ -158,7 +158,7 @@ fn convolve(s: &mut [u16], f: &[u16], k: usize, e: usize, powers: &[u16])
 
 // One layer: s modulo x^h - w, then s modulo x^h + w.
 fn split(s: &mut [u16], h: usize, w: u16)
-    requires { ⌜ (length (now s) ≡ h + h) × (w < modulus) × Within 12288 (now s) ⌝ }
+    requires { ⌜ (length (now s) ≡ h + h) × (w < modulus) × Within (modulus - 1) (now s) ⌝ }
     ensures { λ _. ⌜ now (s .exit) ≡ low h w (now (s .entry)) ++ high h w (now (s .entry)) ⌝ }
 {
     let r = ratio(w);
@@ -175,7 +175,7 @@ fn split(s: &mut [u16], h: usize, w: u16)
 
 // The layer undone, but for a factor of 2, where v w = -1.
 fn join(s: &mut [u16], h: usize, v: u16)
-    requires { ⌜ (length (now s) ≡ h + h) × (v < modulus) × Within 12288 (now s) ⌝ }
+    requires { ⌜ (length (now s) ≡ h + h) × (v < modulus) × Within (modulus - 1) (now s) ⌝ }
     ensures { λ _. ⌜ now (s .exit) ≡ joined v (take h (now (s .entry))) (drop h (now (s .entry))) ⌝ }
 {
     let r = ratio(v);
@@ -195,7 +195,7 @@ fn join(s: &mut [u16], h: usize, v: u16)
 // f times s modulo x^8 - w, row by row, from the last coefficient of f: the rows stand in 8 entries of c that move down by one each time.
 // A sum of 9 products of residues is below 2^32.
 fn block(s: &mut [u16], f: &[u16], w: u16)
-    requires { ⌜ (length (now s) ≡ 8) × (length (now f) ≡ 8) × (w < modulus) × Within 12288 (now s) × Within 12288 (now f) ⌝ }
+    requires { ⌜ (length (now s) ≡ 8) × (length (now f) ≡ 8) × (w < modulus) × Within (modulus - 1) (now s) × Within (modulus - 1) (now f) ⌝ }
     ensures { λ _. ⌜ now (s .exit) ≡ productModulo w (now (f .entry)) (now (s .entry)) ⌝ }
 {
     let mut c = [0u32; 16];
@@ -209,7 +209,7 @@ fn block(s: &mut [u16], f: &[u16], w: u16)
 
 // One row more of a product modulo x^8 - w, in the first 8 entries of c: its rows so far, which stand in the next 8, times x, and a times s.
 fn row(c: &mut [u32], a: u16, s: &[u16], w: u16)
-    requires { ⌜ (9 ≤ length (now c)) × (length (now s) ≡ 8) × (a < modulus) × (w < modulus) × Within 12288 (now s) ⌝ }
+    requires { ⌜ (9 ≤ length (now c)) × (length (now s) ≡ 8) × (a < modulus) × (w < modulus) × Within (modulus - 1) (now s) ⌝ }
     requires { ⌜ Within 1207959552 (take 7 (drop 1 (now c))) ⌝ }
     ensures { λ _. ⌜ take 8 (now (c .exit)) ≡ zipWith (λ y z. z + a * y) (now (s .entry)) (w * (getD (now (c .entry)) 8 0 % modulus) ∷ take 7 (drop 1 (now (c .entry)))) ⌝ }
 {

@@ -101,11 +101,13 @@ fn plus(sum: u32, x: u16, y: u32) -> u32
     (sum % Set::MODULUS + (x as u32) * y) % Set::MODULUS
 }
 
-// y modulo q, of y and four times q.
+// Three times q: every i16 and this is above 0.
+const LIFT: i32 = 3 * (Set::MODULUS as i32);
+
 fn modulo(y: i16) -> u32
     ensures { λ r. ⌜ r < 12289 ⌝ }
 {
-    (y as i32 + 49156) as u32 % Set::MODULUS
+    (y as i32 + LIFT) as u32 % Set::MODULUS
 }
 
 // ---- a generator

@@ -1,7 +1,7 @@
 // Rounding: upper digits, centring modulo p, and the sums that are rounded (01, "Ring arithmetic").
 // A number is reduced modulo 24578 before it is rounded, always: 25,089 reduces to 511, whose upper digits are 0 at d = 10; rounded first it gives 1.
 ghost use mathlib.Core.Path.{_≡_};
-ghost use Prim.Native.Nat.{_+_, _%_, _<_};
+ghost use Prim.Native.Nat.{_+_, _*_, _%_, _<_};
 ghost use lib.IntN.{pos, natAbs, _+ℤ_, _-ℤ_};
 ghost use Rattle.laws.specs.Integers.{residue};
 ghost use Rattle.sets.specs.Numbers.{twiceModulus, pOf};
@@ -39,11 +39,15 @@ pub fn centre(s: Set, x: u32) -> i8
     }
 }
 
-// y and two moduli, which is not negative.
+// Twice 24578: every i16 and this is above 0, and below twice this.
+const LIFT: i32 = 2 * (Set::TWICE_MODULUS as i32);
+
+const TWICE_LIFT: u32 = 4 * Set::TWICE_MODULUS;
+
 fn lift(y: i16) -> u32
-    ensures { λ r. ⌜ (pos r ≡ y +ℤ pos 49156) × (r < 81924) ⌝ }
+    ensures { λ r. ⌜ (pos r ≡ y +ℤ pos (2 * twiceModulus)) × (r < 4 * twiceModulus) ⌝ }
 {
-    (y as i32 + 49156) as u32
+    (y as i32 + LIFT) as u32
 }
 
 // 12288 t + y modulo 24578.
@@ -58,7 +62,7 @@ pub fn difference(u: u32, z: i16) -> u32
     requires { ⌜ u < twiceModulus ⌝ }
     ensures { λ r. ⌜ r ≡ residue twiceModulus (pos u -ℤ z) ⌝ }
 {
-    (u + 98312 - lift(z)) % Set::TWICE_MODULUS
+    (u + TWICE_LIFT - lift(z)) % Set::TWICE_MODULUS
 }
 
 // z2 dagger at one place.

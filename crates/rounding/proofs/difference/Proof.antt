@@ -1,5 +1,5 @@
 use mathlib.Core.Path.{_≡_, sym, ap, _∙_}
-use Prim.Native.Nat.{ℕ, _+_, _-_, _%_}
+use Prim.Native.Nat.{ℕ, _+_, _*_, _-_, _%_}
 use native.Mathlib.Omega.{arith}
 use borrow.Author.Needs.{needs}
 use lib.Dec.{lit<}
@@ -24,10 +24,10 @@ returns : tie.Need-returns
 returns c =
     let a = c .before .args in
     let l = c .lift .result in
-    let e : pos l ≡ a .z +ℤ pos 49156 = c .lift .ensures .0 ∙ ap (λ (z : ℤ). z +ℤ pos 49156) (given (c .before .fits .z) .back) in
-    residue-of-sum twiceModulus (a .u + 98312 - l) (pos 2) (pos (a .u) -ℤ a .z) (lit< tt)
-    (eq-out (pos (a .u + 98312 - l)) (pos (a .u) -ℤ a .z +ℤ pos 49156)
-    (omega (arith, eq-in e, c .lift .ensures .1, sum (a .z) (pos 49156), difference (pos (a .u)) (a .z), sum (pos (a .u) -ℤ a .z) (pos 49156))))
+    let e : pos l ≡ a .z +ℤ pos (2 * twiceModulus) = c .lift .ensures .0 ∙ ap (λ (z : ℤ). z +ℤ pos (2 * twiceModulus)) (given (c .before .fits .z) .back) in
+    residue-of-sum twiceModulus (a .u + 4 * twiceModulus - l) (pos 2) (pos (a .u) -ℤ a .z) (lit< tt)
+    (eq-out (pos (a .u + 4 * twiceModulus - l)) (pos (a .u) -ℤ a .z +ℤ pos (2 * twiceModulus))
+    (omega (arith, eq-in e, c .lift .ensures .1, sum (a .z) (pos (2 * twiceModulus)), difference (pos (a .u)) (a .z), sum (pos (a .u) -ℤ a .z) (pos (2 * twiceModulus)))))
 
 pub difference-spec : {M : Type 1} → statement M
 difference-spec = tie.close (tie.spec add-result lift-requires sub-result returns)

@@ -25,7 +25,7 @@ unfolding summed
 returns c =
     let a = c .before .args in
     residue-of-sum twiceModulus (factor * a .t + c .lift .result) (pos 2) (pos (factor * a .t) +ℤ a .y) (lit< tt)
-    (ap (λ (z : ℤ). pos (factor * a .t) +ℤ z) (c .lift .ensures .0 ∙ ap (λ (z : ℤ). z +ℤ pos 49156) (given (c .before .fits .y) .back)) ∙ sym (+ℤ-assoc (pos (factor * a .t)) (a .y) (pos 49156)))
+    (ap (λ (z : ℤ). pos (factor * a .t) +ℤ z) (c .lift .ensures .0 ∙ ap (λ (z : ℤ). z +ℤ pos (2 * twiceModulus)) (given (c .before .fits .y) .back)) ∙ sym (+ℤ-assoc (pos (factor * a .t)) (a .y) (pos (2 * twiceModulus))))
 
 pub sum-spec : {M : Type 1} → statement M
 sum-spec = tie.close (tie.spec mul-result lift-requires add-result returns)
