@@ -13,11 +13,10 @@ use Rattle.laws.specs.Refusals.{must}
 use Rattle.laws.proofs.Bounds.{cond-ind}
 use Rattle.laws.proofs.Chain.{through}
 use Rattle.sets.specs.declared.Set.{Set}
-use Rattle.sets.specs.declared.Set.the-variants.{I, II, III, IV}
 use Rattle.sets.specs.declared.Asked.{Asked}
 use Rattle.sets.specs.declared.Asked.the-variants.{Known, Unknown}
 use Rattle.sets.specs.Numbers.{kappaOf, totalOf, numberOf, namedOf}
-use Rattle.sets.proofs.Alike.{named-back}
+use Rattle.sets.proofs.Alike.{each, named-back, named-is}
 use Rattle.answers.specs.Outcomes.{forSet}
 use Rattle.record_forms.specs.declared.Header.{Header}
 use Rattle.record_forms.specs.declared.Header.the-variants.{States, Malformed}
@@ -36,33 +35,7 @@ passed {s} place next test = through test (Malformed place) next (States s) (λ 
     never : Malformed place ≡ States s → ⊥
     never h = let z : _≡_ {A = ℕ} 0 1 = cc in omega arith
 
--- the number that names a set is the set's
-named-step : (s s′ : Set) (n : ℕ) (rest : Asked) → (rest ≡ Known s → n ≡ numberOf s) → cond (eqb n (numberOf s′)) (Known s′) rest ≡ Known s → n ≡ numberOf s
-named-step s s′ n rest later =
-    cond-ind (eqb n (numberOf s′)) (Known s′) rest (λ a. a ≡ Known s → n ≡ numberOf s)
-    (λ t e. let same : s′ ≡ s = cc in eqb→eq n (numberOf s′) t ∙ ap numberOf same)
-    (λ t. later)
-
-pub named-is : (s : Set) (n : ℕ) → namedOf n ≡ Known s → n ≡ numberOf s
-unfolding namedOf
-named-is s n =
-    named-step s I n _
-    (named-step s II n _
-    (named-step s III n _
-    (named-step s IV n Unknown
-    (λ e. let z : _≡_ {A = ℕ} 0 1 = cc in absurd (none z)))))
-  where
-    none : _≡_ {A = ℕ} 0 1 → ⊥
-    none z = omega arith
-
 -- ---- there
-
--- a fact of every header, from those of the four
-each : (P : Set → Type 0) → P I → P II → P III → P IV → (s : Set) → P s
-each P a b c d I = a
-each P a b c d II = b
-each P a b c d III = c
-each P a b c d IV = d
 
 opens : (s : Set) → take 4 (headerOf s) ≡ letters
 unfolding headerOf

@@ -1,15 +1,18 @@
 -- What holds of every set alike: the few laws of d, p, kappa and K that everything else is proved from.
-use mathlib.Core.Path.{_≡_, refl}
+use mathlib.Core.Path.{_≡_, refl, ap, _∙_}
+use mathlib.Core.Bool.{cond}
 use Prim.Native.Nat.{ℕ, _+_, _*_, _-_, _/_, _^_, _<_, _≤_}
-use lib.Dec.{lit<, lit≤}
+use native.Mathlib.Omega.{arith}
+use lib.Dec.{eqb, eqb→eq, lit<, lit≤}
+use Rattle.laws.proofs.Bounds.{cond-ind}
 use Rattle.sets.specs.declared.Set.{Set}
 use Rattle.sets.specs.declared.Set.the-variants.{I, II, III, IV}
 use Rattle.sets.specs.declared.Asked.{Asked}
-use Rattle.sets.specs.declared.Asked.the-variants.{Known}
+use Rattle.sets.specs.declared.Asked.the-variants.{Known, Unknown}
 use Rattle.sets.specs.Numbers.{twiceModulus, maskLimit, listLimit, kappaOf, dOf, pOf, largestOf, keyLimitOf, totalOf, numberOf, namedOf, askedOf}
 
 -- a statement about a set, from its four cases
-each : (P : Set → Type 0) → P I → P II → P III → P IV → (s : Set) → P s
+pub each : (P : Set → Type 0) → P I → P II → P III → P IV → (s : Set) → P s
 each P a b c d I = a
 each P a b c d II = b
 each P a b c d III = c
@@ -31,6 +34,10 @@ step-small = each _ (lit≤ tt) (lit≤ tt) (lit≤ tt) (lit≤ tt)
 
 pub step-positive : (s : Set) → 256 ≤ 2 ^ dOf s
 step-positive = each _ (lit≤ tt) (lit≤ tt) (lit≤ tt) (lit≤ tt)
+
+-- the square of a step, as the length rule's sum has it
+pub step-squared : (s : Set) → 2 ^ dOf s * 2 ^ dOf s ≡ 4 ^ dOf s
+step-squared = each _ refl refl refl refl
 
 pub p-even : (s : Set) → pOf s ≡ pOf s / 2 + pOf s / 2
 p-even = each _ refl refl refl refl
@@ -76,6 +83,28 @@ total-small = each _ (lit< tt) (lit< tt) (lit< tt) (lit< tt)
 pub named-back : (s : Set) → namedOf (numberOf s) ≡ Known s
 unfolding namedOf
 named-back = each _ refl refl refl refl
+
+-- and no other number does
+named-step : (s s′ : Set) (n : ℕ) (rest : Asked) → (rest ≡ Known s → n ≡ numberOf s) → cond (eqb n (numberOf s′)) (Known s′) rest ≡ Known s → n ≡ numberOf s
+named-step s s′ n rest later =
+    cond-ind (eqb n (numberOf s′)) (Known s′) rest (λ a. a ≡ Known s → n ≡ numberOf s)
+    (λ t e. let same : s′ ≡ s = cc in eqb→eq n (numberOf s′) t ∙ ap numberOf same)
+    (λ t. later)
+
+pub named-is : (s : Set) (n : ℕ) → namedOf n ≡ Known s → n ≡ numberOf s
+unfolding namedOf
+named-is s n =
+    named-step s I n _
+    (named-step s II n _
+    (named-step s III n _
+    (named-step s IV n Unknown
+    (λ e. let z : _≡_ {A = ℕ} 0 1 = cc in absurd (none z)))))
+  where
+    none : _≡_ {A = ℕ} 0 1 → ⊥
+    none z = omega arith
+
+pub number-small : (s : Set) → numberOf s < 256
+number-small = each _ (lit< tt) (lit< tt) (lit< tt) (lit< tt)
 
 pub asked-back : (s : Set) → askedOf (numberOf s) ≡ Known s
 unfolding askedOf namedOf

@@ -1,25 +1,17 @@
-use mathlib.Core.Path.{_≡_, refl, _∙_, ap, ap₂}
+use mathlib.Core.Path.{_≡_, _∙_, ap, ap₂}
 use Prim.Native.Nat.{ℕ, _+_, _*_, _^_, _≤_}
 use native.Mathlib.Nat.{mul-le-mul}
 use native.Mathlib.Omega.{arith}
 use borrow.Author.Needs.{needs}
 use lib.Pow.{pow-mono}
-use Rattle.sets.specs.declared.Set.{Set}
-use Rattle.sets.specs.declared.Set.the-variants.{I, II, III, IV}
 use Rattle.sets.specs.Numbers.{dOf}
-use Rattle.sets.proofs.Alike.{d-small}
+use Rattle.sets.proofs.Alike.{d-small, step-squared}
 use Rattle.limits.proofs.weighted_sum.Statement.{statement}
 use Rattle.limits.proofs.weighted_sum.Tie as tie
 
-four-is : (s : Set) → 2 ^ dOf s * 2 ^ dOf s ≡ 4 ^ dOf s
-four-is I = refl
-four-is II = refl
-four-is III = refl
-four-is IV = refl
-
 module _ (c : tie.After-factor) where
   squared : c .factor .result * c .factor .result ≡ 4 ^ dOf (c .before .args .s)
-  squared = ap (λ (n : ℕ). n * n) (c .factor .ensures) ∙ four-is (c .before .args .s)
+  squared = ap (λ (n : ℕ). n * n) (c .factor .ensures) ∙ step-squared (c .before .args .s)
 
   small : c .factor .result * c .factor .result ≤ 2 ^ 20
   small = let h : c .factor .result ≤ 2 ^ 10 = omega (arith, c .factor .ensures, pow-mono (d-small (c .before .args .s))) in mul-le-mul h h

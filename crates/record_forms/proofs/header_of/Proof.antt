@@ -1,26 +1,18 @@
 use mathlib.Core.Path.{_≡_, refl, ap, _∙_}
 use mathlib.Core.List.{List, [], _∷_}
-use Prim.Native.Nat.{ℕ, _+_, _/_, _%_, _<_}
+use Prim.Native.Nat.{ℕ, _+_, _/_, _%_}
 use native.Mathlib.Omega.{arith}
-use lib.Dec.{lit<}
 use lib.ListN.{set}
 use mir.Syntax.{w8, w16}
 use mir.Val.{Fits}
 use Rattle.sets.specs.declared.Set.{Set}
-use Rattle.sets.specs.declared.Set.the-variants.{I, II, III, IV}
 use Rattle.sets.specs.Numbers.{kappaOf, totalOf, numberOf}
-use Rattle.sets.proofs.Alike.{kappa-within, total-small}
+use Rattle.sets.proofs.Alike.{each, number-small, kappa-within, total-small}
 use Rattle.byte_codes.specs.Bytes.{bytesOf}
 use Rattle.record_forms.specs.Headers.{headerOf}
 use borrow.Author.Needs.{needs}
 use Rattle.record_forms.proofs.header_of.Statement.{statement}
 use Rattle.record_forms.proofs.header_of.Tie as tie
-
-number-small : (s : Set) → numberOf s < 256
-number-small I = lit< tt
-number-small II = lit< tt
-number-small III = lit< tt
-number-small IV = lit< tt
 
 -- what the casts ask
 number-fits : (n : ℕ) (s : Set) → n ≡ numberOf s → Fits w8 n
@@ -43,10 +35,7 @@ built number kappa total =
 
 built-is : (s : Set) → built (numberOf s) (kappaOf s) (totalOf s) ≡ headerOf s
 unfolding headerOf bytesOf
-built-is I = refl
-built-is II = refl
-built-is III = refl
-built-is IV = refl
+built-is = each _ refl refl refl refl
 
 built-at : (s : Set) (number kappa total : ℕ) → number ≡ numberOf s → kappa ≡ kappaOf s → total ≡ totalOf s → built number kappa total ≡ headerOf s
 built-at s number kappa total e f g = rw (e, f, g) (built-is s)
