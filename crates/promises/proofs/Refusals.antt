@@ -1,4 +1,4 @@
--- Demand 1: no refusal writes to an output vector; and the word count of a refused response. Assumes nothing.
+-- Demand 1: no refusal writes to an output buffer; and the word count of a refused response. Assumes nothing.
 use mathlib.Core.Path.{_≡_, refl, ap, subst}
 use mathlib.Core.Bool.{Bool, true, false}
 use mathlib.Core.List.{List, [], _∷_}
@@ -23,7 +23,12 @@ use Rattle.draw.specs.declared.Ending.the-variants.{Accepted, Rejected as Turne
 use Rattle.draw.specs.Draw.{afterWalk}
 use Rattle.signing.specs.Response.{Responded, responded, drawn, signedWith, tested, responseFor, response}
 use Rattle.checking.specs.Checking.{rebuild}
-use Rattle.promises.specs.Demands.{CommitmentKeeps, RebuildKeeps, ResponseKeeps, ResponseCounts}
+use Rattle.record_forms.specs.declared.Header.{Header}
+use Rattle.record_forms.specs.declared.Header.the-variants.{States, Malformed}
+use Rattle.record_forms.specs.Headers.{opened}
+use Rattle.records.specs.Writer.{Written, written, writingFor, writingOf}
+use Rattle.records.specs.Reader.{Found, found, readingFor, readingOf}
+use Rattle.promises.specs.Demands.{CommitmentKeeps, RebuildKeeps, ResponseKeeps, WriterKeeps, ReaderKeeps, ResponseCounts}
 
 -- ---- what holds of every way through a chain holds of its answer
 record Holds {A : Type 0} (P : A → Type 0) (x : A) : Type 0 where
@@ -44,41 +49,86 @@ module _ {A : Type 0} {P : A → Type 0} where
   walk-either (Turned n) accepted rejected short p q r = q n
   walk-either OutOfWords accepted rejected short p q r = r
 
-ruleset ways = (needs, must-either, set-either, walk-either)
+  header-either : (header : Header) (malformed : ℕ → A) (states : Set → A) → ((place : ℕ) → Holds P (malformed place)) → ((s : Set) → Holds P (states s))
+      → Holds P (opened header malformed states)
+  header-either (Malformed place) malformed states p q = p place
+  header-either (States s) malformed states p q = q s
 
--- ---- one vector
-abbrev Keeps : List ℕ → Filled → Type 0
-Keeps out (filled o after) = (o ≡ Done → ⊥) → after ≡ out
+ruleset ways = (needs, must-either, set-either, walk-either, header-either)
 
-kept : (out : List ℕ) (o : Outcome) → Holds (Keeps out) (filled o out)
-kept out o = record { is = λ n. refl }
+-- ---- what a call has left is what was there, where its answer is not 0: `answer` and `left` read these two off
+abbrev Keeps : {A B : Type 0} → (A → Outcome) → (A → B) → B → A → Type 0
+Keeps answer left old x = (answer x ≡ Done → ⊥) → left x ≡ old
 
-written : (out after : List ℕ) → Holds (Keeps out) (filled Done after)
-written out after = record { is = λ n. absurd (n refl) }
+module _ {A B : Type 0} (answer : A → Outcome) (left : A → B) (old : B) where
+  kept : (x : A) → left x ≡ old → Holds (Keeps answer left old) x
+  kept x e = record { is = λ n. e }
 
-commitment-holds : (set : ℕ) (a : List ℕ) (y1 y2 : List ℤ) (out : List ℕ) → Holds (Keeps out) (commitment set a y1 y2 out)
+  done : (x : A) → answer x ≡ Done → Holds (Keeps answer left old) x
+  done x e = record { is = λ n. absurd (n e) }
+
+ruleset ends = (refl, kept, done)
+
+-- a vector
+abbrev filledAnswer : Filled → Outcome
+filledAnswer (filled o after) = o
+
+abbrev filledLeft : Filled → List ℕ
+filledLeft (filled o after) = after
+
+commitment-holds : (set : ℕ) (a : List ℕ) (y1 y2 : List ℤ) (out : List ℕ) → Holds (Keeps filledAnswer filledLeft out) (commitment set a y1 y2 out)
 unfolding commitment
-commitment-holds set a y1 y2 out = search (ways, kept, written)
+commitment-holds set a y1 y2 out = search (ways, ends)
 
 pub commitment-keeps : CommitmentKeeps
-commitment-keeps set a y1 y2 out o after e = subst (Keeps out) e (commitment-holds set a y1 y2 out .is)
+commitment-keeps set a y1 y2 out o after e = subst (Keeps filledAnswer filledLeft out) e (commitment-holds set a y1 y2 out .is)
 
-rebuild-holds : (set : ℕ) (a : List ℕ) (z1 z2 : List ℤ) (l out : List ℕ) → Holds (Keeps out) (rebuild set a z1 z2 l out)
+rebuild-holds : (set : ℕ) (a : List ℕ) (z1 z2 : List ℤ) (l out : List ℕ) → Holds (Keeps filledAnswer filledLeft out) (rebuild set a z1 z2 l out)
 unfolding rebuild
-rebuild-holds set a z1 z2 l out = search (ways, kept, written) depth 9
+rebuild-holds set a z1 z2 l out = search (ways, ends) depth 10
 
 pub rebuild-keeps : RebuildKeeps
-rebuild-keeps set a z1 z2 l out o after e = subst (Keeps out) e (rebuild-holds set a z1 z2 l out .is)
+rebuild-keeps set a z1 z2 l out o after e = subst (Keeps filledAnswer filledLeft out) e (rebuild-holds set a z1 z2 l out .is)
 
--- ---- the response's two vectors
-abbrev KeepsBoth : List ℤ → List ℤ → Responded → Type 0
-KeepsBoth out1 out2 (responded o count after1 after2) = (o ≡ Done → ⊥) → (after1 ≡ out1) × (after2 ≡ out2)
+-- the writer's output
+abbrev writtenAnswer : Written → Outcome
+writtenAnswer (written o after) = o
 
-kept-both : (out1 out2 : List ℤ) (o : Outcome) (count : ℕ) → Holds (KeepsBoth out1 out2) (responded o count out1 out2)
-kept-both out1 out2 o count = record { is = λ n. (refl, refl) }
+abbrev writtenLeft : Written → List ℕ
+writtenLeft (written o after) = after
 
-written-both : (out1 out2 after1 after2 : List ℤ) (count : ℕ) → Holds (KeepsBoth out1 out2) (responded Done count after1 after2)
-written-both out1 out2 after1 after2 count = record { is = λ n. absurd (n refl) }
+writer-holds : (set : ℕ) (z1 z2 : List ℤ) (l out : List ℕ) → Holds (Keeps writtenAnswer writtenLeft out) (writingOf set z1 z2 l out)
+unfolding writingOf writingFor
+writer-holds set z1 z2 l out = search (ways, ends) depth 10
+
+pub writer-keeps : WriterKeeps
+writer-keeps set z1 z2 l out o after e = subst (Keeps writtenAnswer writtenLeft out) e (writer-holds set z1 z2 l out .is)
+
+-- the reader's set and its three buffers
+abbrev foundAnswer : Found → Outcome
+foundAnswer (found o set after1 after2 after3) = o
+
+abbrev Kept : Type 0
+Kept = ℕ × List ℤ × List ℤ × List ℕ
+
+abbrev foundLeft : Found → Kept
+foundLeft (found o set after1 after2 after3) = (set, after1, after2, after3)
+
+reader-holds : (rec : List ℕ) (out1 out2 : List ℤ) (out3 : List ℕ) → Holds (Keeps foundAnswer foundLeft (0, out1, out2, out3)) (readingOf rec out1 out2 out3)
+unfolding readingOf readingFor
+reader-holds rec out1 out2 out3 = search (ways, ends) depth 10
+
+pub reader-keeps : ReaderKeeps
+reader-keeps rec out1 out2 out3 o set after1 after2 after3 e n =
+    let same = subst (Keeps foundAnswer foundLeft (0, out1, out2, out3)) e (reader-holds rec out1 out2 out3 .is) n in
+    (ap (λ (x : Kept). x .0) same, ap (λ (x : Kept). x .1) same, ap (λ (x : Kept). x .2) same, ap (λ (x : Kept). x .3) same)
+
+-- the response's two vectors
+abbrev respondedAnswer : Responded → Outcome
+respondedAnswer (responded o count after1 after2) = o
+
+abbrev respondedLeft : Responded → List ℤ × List ℤ
+respondedLeft (responded o count after1 after2) = (after1, after2)
 
 -- ---- its count
 abbrev Counts : ℕ → Responded → Type 0
@@ -133,17 +183,18 @@ module _ (lent : ℕ) (z1 z2 : List ℤ) where
       record { is = (λ m n. absurd (omega (arith, h .is m)), λ e. let nine : numberOf o ≡ 9 = ap numberOf e in absurd (omega (arith, h .is (omega arith)))) }
 
 module _ (set : ℕ) (f g : List ℤ) (a : List ℕ) (y1 y2 : List ℤ) (l : List ℕ) (bit : Bool) (thresholds words : List ℕ) (out1 out2 : List ℤ) where
-  response-holds : Holds (KeepsBoth out1 out2) (response set f g a y1 y2 l bit thresholds words out1 out2)
+  response-holds : Holds (Keeps respondedAnswer respondedLeft (out1, out2)) (response set f g a y1 y2 l bit thresholds words out1 out2)
   unfolding response responseFor tested signedWith drawn
-  response-holds = search (ways, kept-both, written-both) depth 9
+  response-holds = search (ways, ends) depth 10
 
   count-holds : Holds (Counts (length words)) (response set f g a y1 y2 l bit thresholds words out1 out2)
   unfolding response responseFor tested signedWith drawn
   count-holds = search (ways, early, early-key, counts-early, late-rule, late-done, counts-late, counts-rejected, counts-short) depth 12
 
 pub response-keeps : ResponseKeeps
-response-keeps set f g a y1 y2 l bit thresholds words out1 out2 o count after1 after2 e =
-    subst (KeepsBoth out1 out2) e (response-holds set f g a y1 y2 l bit thresholds words out1 out2 .is)
+response-keeps set f g a y1 y2 l bit thresholds words out1 out2 o count after1 after2 e n =
+    let same = subst (Keeps respondedAnswer respondedLeft (out1, out2)) e (response-holds set f g a y1 y2 l bit thresholds words out1 out2 .is) n in
+    (ap (λ (x : List ℤ × List ℤ). x .0) same, ap (λ (x : List ℤ × List ℤ). x .1) same)
 
 pub response-counts : ResponseCounts
 response-counts set f g a y1 y2 l bit thresholds words out1 out2 o count after1 after2 e =

@@ -1,5 +1,5 @@
--- Demands 1 and 3, over the definitions that the contracts of the key test, the commitment, the response and the rebuild cite. Each statement is proved in
--- proofs/ under its own name: `commitment-keeps : CommitmentKeeps`, and so on.
+-- Demands 1 and 3, over the definitions that the calls' contracts cite. Each statement is proved in proofs/ under its own name:
+-- `commitment-keeps : CommitmentKeeps`, and so on.
 use mathlib.Core.Path.{_≡_}
 use mathlib.Core.Bool.{Bool, true}
 use mathlib.Core.List.{List}
@@ -18,6 +18,8 @@ use Rattle.commitment.specs.Commitment.{areMasks, commitment}
 use Rattle.choices.specs.Choices.{pair, squaresPair, choices}
 use Rattle.signing.specs.Response.{responded, masked, drawn, response}
 use Rattle.checking.specs.Checking.{rebuild, comparison}
+use Rattle.records.specs.Writer.{written, writingOf}
+use Rattle.records.specs.Reader.{found, readingOf}
 
 -- ---- demand 1: each refusal "leaves the output buffers with the contents they came with"
 
@@ -45,6 +47,22 @@ ResponseKeeps =
     → response set f g a y1 y2 l bit thresholds words out1 out2 ≡ responded o count after1 after2
     → (o ≡ Done → ⊥)
     → (after1 ≡ out1) × (after2 ≡ out2)
+
+-- the writer's output
+abbrev pub WriterKeeps : Type 0
+WriterKeeps =
+    (set : ℕ) (z1 z2 : List ℤ) (l out : List ℕ) (o : Outcome) (after : List ℕ)
+    → writingOf set z1 z2 l out ≡ written o after
+    → (o ≡ Done → ⊥)
+    → after ≡ out
+
+-- the reader's three buffers; the set is then 0
+abbrev pub ReaderKeeps : Type 0
+ReaderKeeps =
+    (rec : List ℕ) (out1 out2 : List ℤ) (out3 : List ℕ) (o : Outcome) (set : ℕ) (after1 after2 : List ℤ) (after3 : List ℕ)
+    → readingOf rec out1 out2 out3 ≡ found o set after1 after2 after3
+    → (o ≡ Done → ⊥)
+    → (set ≡ 0) × (after1 ≡ out1) × (after2 ≡ out2) × (after3 ≡ out3)
 
 -- "The word count is 0 for refusals before the draw; with 9 it is the number of words lent" (01). The refusals before the draw are numbers 1 to 7
 abbrev pub ResponseCounts : Type 0
