@@ -1,10 +1,7 @@
 //! The declarations of `include/bursztok.h`.
 //!
 //! Slices are declared as a pointer and a length: a `&[T]` in an `extern "C"` declaration is not
-//! passed as C passes the two. On a machine that is not x86-64, `served` has the same calls.
-
-#[cfg(not(target_arch = "x86_64"))]
-pub use crate::served::*;
+//! passed as C passes the two.
 
 #[repr(C)]
 pub struct Answer {

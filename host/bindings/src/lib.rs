@@ -5,6 +5,8 @@
 //! the contents it came with.
 
 mod foreign;
+#[cfg(target_arch = "x86_64")]
+mod linked;
 mod refusal;
 #[cfg(not(target_arch = "x86_64"))]
 mod served;
@@ -12,6 +14,10 @@ mod served;
 pub use refusal::Refusal;
 
 use foreign::{Answer, Part};
+#[cfg(target_arch = "x86_64")]
+use linked as calls;
+#[cfg(not(target_arch = "x86_64"))]
+use served as calls;
 
 /// The length of every vector.
 pub const VECTOR: usize = 512;
@@ -63,19 +69,7 @@ pub struct Section<'a> {
 
 /// The key test.
 pub fn key_test(set: u32, f: &[i8], g: &[i8], a: &[u16]) -> Result<(), Refusal> {
-    // SAFETY: each pointer is good for the length beside it.
-    let answer = unsafe {
-        foreign::bursztok_key_test(
-            set,
-            f.as_ptr(),
-            f.len(),
-            g.as_ptr(),
-            g.len(),
-            a.as_ptr(),
-            a.len(),
-        )
-    };
-    outcome(answer)
+    outcome(calls::key_test(set, f, g, a))
 }
 
 /// The commitment to the masks y1 and y2.
@@ -86,63 +80,12 @@ pub fn commitment(
     y2: &[i16],
     out: &mut [u16],
 ) -> Result<(), Refusal> {
-    // SAFETY: each pointer is good for the length beside it; `out` is borrowed alone.
-    let answer = unsafe {
-        foreign::bursztok_commitment(
-            set,
-            a.as_ptr(),
-            a.len(),
-            y1.as_ptr(),
-            y1.len(),
-            y2.as_ptr(),
-            y2.len(),
-            out.as_mut_ptr(),
-            out.len(),
-        )
-    };
-    outcome(answer)
+    outcome(calls::commitment(set, a, y1, y2, out))
 }
 
 /// The response to a challenge: writes z1 and z2 dagger.
 pub fn respond(set: u32, challenge: Challenge, z1: &mut [i16], z2_dagger: &mut [i8]) -> Response {
-    let Challenge {
-        f,
-        g,
-        a,
-        y1,
-        y2,
-        list,
-        sign,
-        thresholds,
-        words,
-    } = challenge;
-    // SAFETY: each pointer is good for the length beside it; the outputs are borrowed alone.
-    let answer = unsafe {
-        foreign::bursztok_respond(
-            set,
-            f.as_ptr(),
-            f.len(),
-            g.as_ptr(),
-            g.len(),
-            a.as_ptr(),
-            a.len(),
-            y1.as_ptr(),
-            y1.len(),
-            y2.as_ptr(),
-            y2.len(),
-            list.as_ptr(),
-            list.len(),
-            sign,
-            thresholds.as_ptr(),
-            thresholds.len(),
-            words.as_ptr(),
-            words.len(),
-            z1.as_mut_ptr(),
-            z1.len(),
-            z2_dagger.as_mut_ptr(),
-            z2_dagger.len(),
-        )
-    };
+    let answer = calls::respond(set, challenge, z1, z2_dagger);
     Response {
         outcome: Refusal::outcome(answer.number, answer.place),
         words: answer.words,
@@ -158,38 +101,12 @@ pub fn rebuild(
     list: &[u16],
     out: &mut [u16],
 ) -> Result<(), Refusal> {
-    // SAFETY: each pointer is good for the length beside it; `out` is borrowed alone.
-    let answer = unsafe {
-        foreign::bursztok_rebuild(
-            set,
-            a.as_ptr(),
-            a.len(),
-            z1.as_ptr(),
-            z1.len(),
-            z2_dagger.as_ptr(),
-            z2_dagger.len(),
-            list.as_ptr(),
-            list.len(),
-            out.as_mut_ptr(),
-            out.len(),
-        )
-    };
-    outcome(answer)
+    outcome(calls::rebuild(set, a, z1, z2_dagger, list, out))
 }
 
 /// The comparison of the claimed list with the list that the caller hashed.
 pub fn compare(set: u32, claimed: &[u16], hashed: &[u16]) -> Result<(), Refusal> {
-    // SAFETY: each pointer is good for the length beside it.
-    let answer = unsafe {
-        foreign::bursztok_compare(
-            set,
-            claimed.as_ptr(),
-            claimed.len(),
-            hashed.as_ptr(),
-            hashed.len(),
-        )
-    };
-    outcome(answer)
+    outcome(calls::compare(set, claimed, hashed))
 }
 
 /// The record writer. A longer output keeps its tail.
@@ -200,38 +117,12 @@ pub fn write(
     list: &[u16],
     out: &mut [u8],
 ) -> Result<(), Refusal> {
-    // SAFETY: each pointer is good for the length beside it; `out` is borrowed alone.
-    let answer = unsafe {
-        foreign::bursztok_write(
-            set,
-            z1.as_ptr(),
-            z1.len(),
-            z2_dagger.as_ptr(),
-            z2_dagger.len(),
-            list.as_ptr(),
-            list.len(),
-            out.as_mut_ptr(),
-            out.len(),
-        )
-    };
-    outcome(answer)
+    outcome(calls::write(set, z1, z2_dagger, list, out))
 }
 
 /// The record reader. List entries after kappa keep their old contents.
 pub fn read(record: &[u8], z1: &mut [i16], z2_dagger: &mut [i8], list: &mut [u16]) -> Reading {
-    // SAFETY: each pointer is good for the length beside it; the outputs are borrowed alone.
-    let answer = unsafe {
-        foreign::bursztok_read(
-            record.as_ptr(),
-            record.len(),
-            z1.as_mut_ptr(),
-            z1.len(),
-            z2_dagger.as_mut_ptr(),
-            z2_dagger.len(),
-            list.as_mut_ptr(),
-            list.len(),
-        )
-    };
+    let answer = calls::read(record, z1, z2_dagger, list);
     Reading {
         outcome: Refusal::outcome(answer.number, answer.place),
         set: answer.set,
@@ -240,30 +131,24 @@ pub fn read(record: &[u8], z1: &mut [i16], z2_dagger: &mut [i8], list: &mut [u16
 
 /// The z1 bytes of a record: two an entry, low byte first.
 pub fn z1_section(record: &[u8]) -> Section<'_> {
-    section(record, foreign::bursztok_z1_section)
+    section(record, calls::z1_section(record))
 }
 
 /// The z2 dagger bytes of a record: one an entry.
 pub fn z2_section(record: &[u8]) -> Section<'_> {
-    section(record, foreign::bursztok_z2_section)
+    section(record, calls::z2_section(record))
 }
 
 /// The list bytes of a record: two a place, low byte first.
 pub fn list_section(record: &[u8]) -> Section<'_> {
-    section(record, foreign::bursztok_list_section)
+    section(record, calls::list_section(record))
 }
 
-type SectionCall = unsafe extern "C" fn(*const u8, usize, *mut u32, *mut u32) -> Part;
-
-fn section(record: &[u8], call: SectionCall) -> Section<'_> {
-    // A number that the library leaves as it is would be none of the paper's.
-    let (mut number, mut place) = (u32::MAX, u32::MAX);
-    // SAFETY: the pointer is good for the length beside it; the two numbers are borrowed alone.
-    let Part { start, length } =
-        unsafe { call(record.as_ptr(), record.len(), &mut number, &mut place) };
+fn section(record: &[u8], (answer, part): (Answer, Part)) -> Section<'_> {
+    let Part { start, length } = part;
     let end = start.checked_add(length).expect("a part has an end");
     Section {
-        outcome: Refusal::outcome(number, place),
+        outcome: outcome(answer),
         part: &record[start as usize..end as usize],
     }
 }

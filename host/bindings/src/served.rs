@@ -1,10 +1,8 @@
-//! The declarations of `foreign.rs` where the library, which is made for x86-64, cannot be linked:
-//! every call goes over a pipe to `bridge.c`, which has it linked and runs under an emulator.
-
-// The shapes are those of `bursztok.h`.
-#![allow(clippy::too_many_arguments)]
+//! The calls of `linked.rs` where the library, which is made for x86-64, cannot be linked: every
+//! call goes over a pipe to `bridge.c`, which has it linked and runs under an emulator.
 
 use crate::foreign::{Answer, Part, Reading, Response};
+use crate::Challenge;
 use std::io::{self, Read, Write};
 use std::mem::size_of_val;
 use std::process::{ChildStdin, ChildStdout, Command, Stdio};
@@ -61,7 +59,7 @@ fn ask(
     }
     let lent = read.iter().copied().chain(written.iter().map(|b| &**b));
     for buffer in lent {
-        request.extend((size_of_val(buffer) as u64).to_le_bytes());
+        request.extend((buffer.len() as u64).to_le_bytes());
         request.extend(buffer);
     }
     let mut bridge = BRIDGE.lock().unwrap_or_else(PoisonError::into_inner);
@@ -80,78 +78,47 @@ fn ask(
     (answer, more, length)
 }
 
-unsafe fn lent<'a, T>(at: *const T, entries: usize) -> &'a [u8] {
-    slice::from_raw_parts(at.cast(), entries * size_of::<T>())
+/// The bytes of a buffer.
+fn bytes<T: Plain>(buffer: &[T]) -> &[u8] {
+    // SAFETY: a number is its bytes, and every byte of the slice belongs to one.
+    unsafe { slice::from_raw_parts(buffer.as_ptr().cast(), size_of_val(buffer)) }
 }
 
-unsafe fn writable<'a, T>(at: *mut T, entries: usize) -> &'a mut [u8] {
-    slice::from_raw_parts_mut(at.cast(), entries * size_of::<T>())
+fn bytes_mut<T: Plain>(buffer: &mut [T]) -> &mut [u8] {
+    // SAFETY: as above, and any bytes are numbers.
+    unsafe { slice::from_raw_parts_mut(buffer.as_mut_ptr().cast(), size_of_val(buffer)) }
 }
 
-pub unsafe fn bursztok_key_test(
-    set: u32,
-    f: *const i8,
-    f_len: usize,
-    g: *const i8,
-    g_len: usize,
-    a: *const u16,
-    a_len: usize,
-) -> Answer {
-    let read = [lent(f, f_len), lent(g, g_len), lent(a, a_len)];
-    ask(1, set, false, &read, &mut []).0
+/// The numbers that a buffer has.
+trait Plain {}
+impl Plain for i8 {}
+impl Plain for u8 {}
+impl Plain for i16 {}
+impl Plain for u16 {}
+impl Plain for u64 {}
+
+pub fn key_test(set: u32, f: &[i8], g: &[i8], a: &[u16]) -> Answer {
+    ask(1, set, false, &[bytes(f), bytes(g), bytes(a)], &mut []).0
 }
 
-pub unsafe fn bursztok_commitment(
-    set: u32,
-    a: *const u16,
-    a_len: usize,
-    y1: *const i16,
-    y1_len: usize,
-    y2: *const i16,
-    y2_len: usize,
-    out: *mut u16,
-    out_len: usize,
-) -> Answer {
-    let read = [lent(a, a_len), lent(y1, y1_len), lent(y2, y2_len)];
-    ask(2, set, false, &read, &mut [writable(out, out_len)]).0
+pub fn commitment(set: u32, a: &[u16], y1: &[i16], y2: &[i16], out: &mut [u16]) -> Answer {
+    let read = [bytes(a), bytes(y1), bytes(y2)];
+    ask(2, set, false, &read, &mut [bytes_mut(out)]).0
 }
 
-pub unsafe fn bursztok_respond(
-    set: u32,
-    f: *const i8,
-    f_len: usize,
-    g: *const i8,
-    g_len: usize,
-    a: *const u16,
-    a_len: usize,
-    y1: *const i16,
-    y1_len: usize,
-    y2: *const i16,
-    y2_len: usize,
-    list: *const u16,
-    list_len: usize,
-    sign: bool,
-    thresholds: *const u64,
-    thresholds_len: usize,
-    words: *const u64,
-    words_len: usize,
-    z1: *mut i16,
-    z1_len: usize,
-    z2: *mut i8,
-    z2_len: usize,
-) -> Response {
+pub fn respond(set: u32, asked: Challenge, z1: &mut [i16], z2_dagger: &mut [i8]) -> Response {
     let read = [
-        lent(f, f_len),
-        lent(g, g_len),
-        lent(a, a_len),
-        lent(y1, y1_len),
-        lent(y2, y2_len),
-        lent(list, list_len),
-        lent(thresholds, thresholds_len),
-        lent(words, words_len),
+        bytes(asked.f),
+        bytes(asked.g),
+        bytes(asked.a),
+        bytes(asked.y1),
+        bytes(asked.y2),
+        bytes(asked.list),
+        bytes(asked.thresholds),
+        bytes(asked.words),
     ];
-    let mut written = [writable(z1, z1_len), writable(z2, z2_len)];
-    let (Answer { number, place }, words, _) = ask(3, set, sign, &read, &mut written);
+    let mut written = [bytes_mut(z1), bytes_mut(z2_dagger)];
+    let (Answer { number, place }, words, _) = ask(3, set, asked.sign, &read, &mut written);
     Response {
         number,
         place,
@@ -159,71 +126,30 @@ pub unsafe fn bursztok_respond(
     }
 }
 
-pub unsafe fn bursztok_rebuild(
+pub fn rebuild(
     set: u32,
-    a: *const u16,
-    a_len: usize,
-    z1: *const i16,
-    z1_len: usize,
-    z2: *const i8,
-    z2_len: usize,
-    list: *const u16,
-    list_len: usize,
-    out: *mut u16,
-    out_len: usize,
+    a: &[u16],
+    z1: &[i16],
+    z2_dagger: &[i8],
+    list: &[u16],
+    out: &mut [u16],
 ) -> Answer {
-    let read = [
-        lent(a, a_len),
-        lent(z1, z1_len),
-        lent(z2, z2_len),
-        lent(list, list_len),
-    ];
-    ask(4, set, false, &read, &mut [writable(out, out_len)]).0
+    let read = [bytes(a), bytes(z1), bytes(z2_dagger), bytes(list)];
+    ask(4, set, false, &read, &mut [bytes_mut(out)]).0
 }
 
-pub unsafe fn bursztok_compare(
-    set: u32,
-    claimed: *const u16,
-    claimed_len: usize,
-    hashed: *const u16,
-    hashed_len: usize,
-) -> Answer {
-    let read = [lent(claimed, claimed_len), lent(hashed, hashed_len)];
-    ask(5, set, false, &read, &mut []).0
+pub fn compare(set: u32, claimed: &[u16], hashed: &[u16]) -> Answer {
+    ask(5, set, false, &[bytes(claimed), bytes(hashed)], &mut []).0
 }
 
-pub unsafe fn bursztok_write(
-    set: u32,
-    z1: *const i16,
-    z1_len: usize,
-    z2: *const i8,
-    z2_len: usize,
-    list: *const u16,
-    list_len: usize,
-    out: *mut u8,
-    out_len: usize,
-) -> Answer {
-    let read = [lent(z1, z1_len), lent(z2, z2_len), lent(list, list_len)];
-    ask(6, set, false, &read, &mut [writable(out, out_len)]).0
+pub fn write(set: u32, z1: &[i16], z2_dagger: &[i8], list: &[u16], out: &mut [u8]) -> Answer {
+    let read = [bytes(z1), bytes(z2_dagger), bytes(list)];
+    ask(6, set, false, &read, &mut [out]).0
 }
 
-pub unsafe fn bursztok_read(
-    record: *const u8,
-    record_len: usize,
-    z1: *mut i16,
-    z1_len: usize,
-    z2: *mut i8,
-    z2_len: usize,
-    list: *mut u16,
-    list_len: usize,
-) -> Reading {
-    let mut written = [
-        writable(z1, z1_len),
-        writable(z2, z2_len),
-        writable(list, list_len),
-    ];
-    let read = [lent(record, record_len)];
-    let (Answer { number, place }, set, _) = ask(7, 0, false, &read, &mut written);
+pub fn read(record: &[u8], z1: &mut [i16], z2_dagger: &mut [i8], list: &mut [u16]) -> Reading {
+    let mut written = [bytes_mut(z1), bytes_mut(z2_dagger), bytes_mut(list)];
+    let (Answer { number, place }, set, _) = ask(7, 0, false, &[record], &mut written);
     Reading {
         number,
         place,
@@ -231,43 +157,19 @@ pub unsafe fn bursztok_read(
     }
 }
 
-unsafe fn section(
-    call: u32,
-    record: *const u8,
-    record_len: usize,
-    number: *mut u32,
-    place: *mut u32,
-) -> Part {
-    let read = [lent(record, record_len)];
-    let (answer, start, length) = ask(call, 0, false, &read, &mut []);
-    *number = answer.number;
-    *place = answer.place;
-    Part { start, length }
+pub fn z1_section(record: &[u8]) -> (Answer, Part) {
+    section(8, record)
 }
 
-pub unsafe extern "C" fn bursztok_z1_section(
-    record: *const u8,
-    record_len: usize,
-    number: *mut u32,
-    place: *mut u32,
-) -> Part {
-    section(8, record, record_len, number, place)
+pub fn z2_section(record: &[u8]) -> (Answer, Part) {
+    section(9, record)
 }
 
-pub unsafe extern "C" fn bursztok_z2_section(
-    record: *const u8,
-    record_len: usize,
-    number: *mut u32,
-    place: *mut u32,
-) -> Part {
-    section(9, record, record_len, number, place)
+pub fn list_section(record: &[u8]) -> (Answer, Part) {
+    section(10, record)
 }
 
-pub unsafe extern "C" fn bursztok_list_section(
-    record: *const u8,
-    record_len: usize,
-    number: *mut u32,
-    place: *mut u32,
-) -> Part {
-    section(10, record, record_len, number, place)
+fn section(call: u32, record: &[u8]) -> (Answer, Part) {
+    let (answer, start, length) = ask(call, 0, false, &[record], &mut []);
+    (answer, Part { start, length })
 }

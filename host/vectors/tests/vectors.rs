@@ -6,7 +6,7 @@ use vectors::{replay, vectors};
 #[test]
 fn the_file_replays_and_reaches_every_number() {
     let file = vectors(1);
-    assert!(file.len() < 300 * 1024, "{} bytes", file.len());
+    assert!(file.len() < 600 * 1024, "{} bytes", file.len());
     assert_eq!(file, vectors(1));
     let counts = replay(&file).unwrap();
     for call in Call::ALL {
