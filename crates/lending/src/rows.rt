@@ -2,6 +2,7 @@
 ghost use mathlib.Core.Path.{_≡_};
 ghost use Prim.Native.Nat.{_≤_, _<_};
 ghost use lib.ListN.{length};
+ghost use Rattle.sets.specs.Numbers.{dimension};
 use sets::Set;
 
 // 0, 1, .., 39, with one entry exchanged: its first kappa entries are a proper list as long as it rises.
@@ -19,8 +20,8 @@ pub fn places(at: usize, place: u16) -> [u16; 40]
 
 // A row whose first entries are this one, and 0 after them.
 pub fn narrow(count: usize, entry: i8) -> [i8; Set::DIMENSION]
-    requires { ⌜ count ≤ 512 ⌝ }
-    ensures { λ r. ⌜ length r ≡ 512 ⌝ }
+    requires { ⌜ count ≤ dimension ⌝ }
+    ensures { λ r. ⌜ length r ≡ dimension ⌝ }
 {
     let mut row = [0i8; Set::DIMENSION];
     for i in 0..count {
@@ -30,8 +31,8 @@ pub fn narrow(count: usize, entry: i8) -> [i8; Set::DIMENSION]
 }
 
 pub fn wide(count: usize, entry: i16) -> [i16; Set::DIMENSION]
-    requires { ⌜ count ≤ 512 ⌝ }
-    ensures { λ r. ⌜ length r ≡ 512 ⌝ }
+    requires { ⌜ count ≤ dimension ⌝ }
+    ensures { λ r. ⌜ length r ≡ dimension ⌝ }
 {
     let mut row = [0i16; Set::DIMENSION];
     for i in 0..count {

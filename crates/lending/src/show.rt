@@ -71,11 +71,11 @@ fn entries(z1: &[i16], z2: &[i16]) {
 }
 
 fn kept(z1: &[i16], z2: &[i16]) {
-    if count(z1, OLD_ENTRY) != 512 {
+    if count(z1, OLD_ENTRY) != (Set::DIMENSION as u64) {
         print(b", WRITTEN");
         return;
     }
-    if count(z2, OLD_ENTRY) != 512 {
+    if count(z2, OLD_ENTRY) != (Set::DIMENSION as u64) {
         print(b", WRITTEN");
         return;
     }
