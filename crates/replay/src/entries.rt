@@ -2,11 +2,11 @@
 ghost use mathlib.Core.Path.{_≡_};
 ghost use Prim.Native.Nat.{_≤_};
 ghost use lib.ListN.{length};
-use crate::answers;
-use crate::answers::Asked;
-use crate::calls;
-use crate::slots;
 use crate::tally;
+use vector_calls::answers;
+use vector_calls::answers::Asked;
+use vector_calls::calls;
+use vector_calls::slots;
 
 // What an entry's head says.
 struct Head {

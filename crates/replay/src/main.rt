@@ -1,9 +1,6 @@
 // Replays the vectors of the second program against the library: data/vectors.bin, whose format host/vectors/src/lib.rs gives. Prints how often each call gave
 // each number, and the calls that answered or left behind what was not wanted.
-mod answers;
-mod calls;
 mod entries;
-mod slots;
 mod tally;
 
 fn main() {

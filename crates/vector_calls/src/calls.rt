@@ -127,7 +127,6 @@ fn is_responded(memory: &[u8], k: Asked, z1: &mut [i16], z2: &mut [i8]) -> bool
     is_drawn(memory, k, f_lent, g_lent, a_lent, list_lent, z1, z2)
 }
 
-// Whether the response is the wanted one, and what it gives out is accepted.
 fn is_drawn(
     memory: &[u8],
     k: Asked,
@@ -148,21 +147,52 @@ fn is_drawn(
     let y2_lent = first_wide(&y2, length_of(memory, 5));
     let thresholds_lent = first_long(&thresholds, length_of(memory, 8));
     let words_lent = first_long(&words, length_of(memory, 9));
-    let r = lending::respond(
-        k.set,
+    is_given_out(
+        k,
         f,
         g,
         a,
         y1_lent,
         y2_lent,
         list,
-        k.sign,
         thresholds_lent,
         words_lent,
         z1,
-        once(k.z1),
         z2,
-        once(k.z2),
+    )
+}
+
+// Whether the response is the wanted one, and what it gives out is accepted.
+fn is_given_out(
+    k: Asked,
+    f: &[i8],
+    g: &[i8],
+    a: &[u16],
+    y1: &[i16],
+    y2: &[i16],
+    list: &[u16],
+    thresholds: &[u64],
+    words: &[u64],
+    z1: &mut [i16],
+    z2: &mut [i8],
+) -> bool {
+    let z1_count = once(k.z1);
+    let z2_count = once(k.z2);
+    let r = lending::respond(
+        k.set,
+        f,
+        g,
+        a,
+        y1,
+        y2,
+        list,
+        k.sign,
+        thresholds,
+        words,
+        z1,
+        z1_count,
+        z2,
+        z2_count,
     );
     if !is_wanted(r.number, r.place, k) {
         return false;
@@ -170,18 +200,7 @@ fn is_drawn(
     if r.words != k.words {
         return false;
     }
-    agreement::agrees(
-        k.set,
-        f,
-        g,
-        a,
-        y1_lent,
-        y2_lent,
-        list,
-        k.sign,
-        thresholds_lent,
-        words_lent,
-    )
+    agreement::agrees(k.set, f, g, a, y1, y2, list, k.sign, thresholds, words)
 }
 
 fn rebuild(memory: &[u8], k: Asked) -> bool
