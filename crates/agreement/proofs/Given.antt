@@ -21,7 +21,6 @@ use Rattle.answers.proofs.Calls.{done-is}
 use Rattle.vectors.specs.Places.{properList}
 use Rattle.vectors.proofs.Rising.{proper-count}
 use Rattle.limits.specs.LengthRule.{lengthRule}
-use Rattle.commitment.specs.Commitment.{commitment}
 use Rattle.signing.specs.Response.{responded, response}
 use Rattle.checking.specs.Checking.{rebuild}
 use Rattle.records.specs.Signatures.{signature, recordOf, refusalOf}

@@ -3,7 +3,7 @@ use mathlib.Core.Path.{_≡_, refl, sym, ap, _∙_}
 use mathlib.Core.Bool.{Bool, true, false, not}
 use mathlib.Core.List.{List}
 use Prim.Native.Nat.{ℕ}
-use borrow.Author.Tests.{not-true, not-false, eqb-true}
+use borrow.Author.Tests.{not-true, not-false}
 use Rattle.laws.specs.Refusals.{must}
 use Rattle.laws.proofs.Chain as Chain
 use Rattle.sets.specs.declared.Set.{Set}
@@ -11,7 +11,7 @@ use Rattle.sets.specs.declared.Asked.{Asked}
 use Rattle.sets.specs.declared.Asked.the-variants.{Known, Unknown}
 use Rattle.answers.specs.declared.Outcome.{Outcome}
 use Rattle.answers.specs.declared.Outcome.the-variants.{Done, UnknownSet, WrongLength, CoefficientOutside, MaskOutside, ImproperList, RelationBroken, KeyTooLong, Rejected, WordMissing, EntryBeyond, SumAbove, ListsDiffer, HeaderMalformed, OutputShort}
-use Rattle.answers.specs.Outcomes.{numberOf, isDone, unless, forSet, Filled, filled}
+use Rattle.answers.specs.Outcomes.{isDone, unless, forSet, filled}
 
 module _ {ℓ} {A : Type ℓ} where
   pub refused : (r : Bool) (o s : Outcome) (answer : Outcome → A) (x next : A) → o ≡ s → r ≡ isDone o → not r ≡ true → x ≡ answer o → x ≡ unless s answer next

@@ -1,5 +1,5 @@
 -- From what a call leaves behind to what its export does. Assumes nothing.
-use mathlib.Core.Path.{_≡_, refl, sym, ap, _∙_}
+use mathlib.Core.Path.{_≡_, ap, _∙_}
 use mathlib.Core.Bool.{cond}
 use mathlib.Core.List.{List}
 use Prim.Native.Nat.{ℕ, _+_, _-_}
@@ -15,7 +15,7 @@ use Rattle.signing.specs.Response.{Responded, responded}
 use Rattle.record_forms.specs.declared.Header.{Header}
 use Rattle.record_forms.specs.declared.Header.the-variants.{States, Malformed}
 use Rattle.record_forms.specs.Headers.{headerIn, opened}
-use Rattle.record_forms.specs.Sections.{Fetched, fetched, partOf, sectionOf}
+use Rattle.record_forms.specs.Sections.{fetched, partOf, sectionOf}
 use Rattle.records.specs.Writer.{Written, written}
 use Rattle.records.specs.Reader.{Found, found}
 use Rattle.bursztok.specs.declared.Answer.{Answer}

@@ -1,8 +1,7 @@
 -- Numbers and sections as bytes: lengths, entries, and the way there and back, once for every width. Assumes nothing.
 use mathlib.Core.Path.{_≡_, refl, sym, ap, ap₂, _∙_}
-use mathlib.Core.Bool.{Bool, true, false}
-use mathlib.Core.List.{List, [], _∷_, _++_, map}
-use Prim.Native.Nat.{ℕ, zero, suc, _+_, _*_, _-_, _/_, _%_, _^_, _<_, _≤_}
+use mathlib.Core.List.{List, [], _∷_, _++_}
+use Prim.Native.Nat.{ℕ, zero, suc, _+_, _*_, _-_, _/_, _%_, _^_, _<_}
 use native.Mathlib.Nat.{pow-succ', one-le-pow, not-suc-le-zero, le-of-suc-le-suc, suc-ne-zero, mul-suc, mul-zero, zero-add}
 use native.Mathlib.Omega.{arith}
 use lib.Dec.{lit<}

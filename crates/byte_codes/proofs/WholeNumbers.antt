@@ -1,10 +1,7 @@
 -- Sections of whole numbers, there and back, once for every width. Assumes nothing.
 use mathlib.Core.Path.{_≡_, refl, sym, ap, ap₂, _∙_}
 use mathlib.Core.List.{List, [], _∷_, map}
-use Prim.Native.Nat.{ℕ, zero, suc, _+_, _*_, _^_, _<_}
-use native.Mathlib.Nat.{one-le-pow}
-use native.Mathlib.Omega.{arith}
-use lib.Dec.{lit<}
+use Prim.Native.Nat.{ℕ, zero, suc, _*_, _^_, _<_}
 use lib.IntN.{ℤ, pos, natAbs}
 use lib.ListN.{length, getD, length-map}
 use lib.Pow.{pow-pos}

@@ -1,13 +1,13 @@
 -- What the length rule tells of z2 dagger. Assumes nothing.
 use mathlib.Core.Path.{_≡_}
 use mathlib.Core.List.{List}
-use Prim.Native.Nat.{ℕ, _*_, _^_, _<_, _≤_}
+use Prim.Native.Nat.{ℕ, _^_, _<_}
 use native.Mathlib.Nat.{lt-of-mul-lt-mul-left, mul-comm}
 use native.Mathlib.Omega.{arith}
 use lib.IntN.{ℤ, pos, natAbs}
 use lib.ListN.{getD}
 use Rattle.sets.specs.declared.Set.{Set}
-use Rattle.sets.specs.Numbers.{dOf, pOf, largestOf}
+use Rattle.sets.specs.Numbers.{dOf, pOf}
 use Rattle.sets.proofs.Alike.{largest-below-spread}
 use Rattle.answers.specs.declared.Outcome.the-variants.{Done}
 use Rattle.limits.specs.LengthRule.{lengthRule}

@@ -1,8 +1,8 @@
 -- The marks of a list: made place by place, and what they are at each place. Assumes nothing.
-use mathlib.Core.Path.{_≡_, refl, sym, ap, ap₂, _∙_}
+use mathlib.Core.Path.{_≡_, refl, sym, ap, _∙_}
 use mathlib.Core.Bool.{Bool, true, false, cond, _||_}
 use mathlib.Core.List.{List, [], _∷_, _++_}
-use Prim.Native.Nat.{ℕ, zero, suc, _+_, _<_, _≤_}
+use Prim.Native.Nat.{ℕ, _+_, _<_}
 use native.Mathlib.Decide.{ℕ-discrete}
 use native.Mathlib.Numerals.{add-one}
 use native.Mathlib.Omega.{arith}
@@ -10,8 +10,7 @@ use borrow.Author.Tests.{eq-eqb, ne-eqb}
 use lib.Dec.{eqb}
 use lib.IntN.{ℤ, pos}
 use lib.ListN.{length, take, getD, set, replicate, length-set, length-replicate, getD-replicate}
-use lib.Seq.{take-suc, take-all, getD-set-same, getD-set-other}
-use Rattle.laws.specs.Lists.{tabulate}
+use lib.Seq.{take-suc, getD-set-same, getD-set-other}
 use Rattle.laws.proofs.Entries.{is-tabulate, getD-tabulate, length-tabulate}
 use Rattle.sets.specs.Numbers.{dimension, modulus}
 use Rattle.vectors.specs.Places.{listed}

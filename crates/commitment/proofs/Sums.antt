@@ -1,10 +1,10 @@
 -- The sums: their number and their range. Assumes nothing.
-use mathlib.Core.Path.{_≡_, refl, sym, ap, _∙_}
+use mathlib.Core.Path.{_≡_, sym, _∙_}
 use mathlib.Core.List.{List, [], _∷_}
 use Prim.Native.Nat.{ℕ, zero, suc, _<_}
 use lib.Dec.{lit<}
-use lib.IntN.{ℤ, pos, _+ℤ_}
-use lib.ListN.{length, getD}
+use lib.IntN.{ℤ}
+use lib.ListN.{length}
 use Rattle.laws.specs.Lists.{zipWith}
 use Rattle.laws.proofs.Congruence.{residue-lt}
 use Rattle.laws.proofs.Entries.{length-zipWith}

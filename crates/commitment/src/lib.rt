@@ -2,8 +2,8 @@
 ghost use mathlib.Core.Path.{_≡_};
 ghost use mathlib.Core.List.{map};
 ghost use lib.ListN.{length};
-ghost use Rattle.laws.specs.Lists.{every, zipWith};
-ghost use Rattle.sets.specs.Numbers.{dimension, twiceModulus};
+ghost use Rattle.laws.specs.Lists.{zipWith};
+ghost use Rattle.sets.specs.Numbers.{dimension};
 ghost use Rattle.answers.specs.Outcomes.{filled};
 ghost use Rattle.rounding.specs.Rounding.{upper, summed};
 ghost use Rattle.commitment.specs.Commitment.{isReduced, areMasks, sums, committed, commitment as commitmentOf, commitmentFor};

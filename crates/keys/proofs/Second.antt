@@ -1,14 +1,12 @@
 -- s2 = 2g + 1: its length, its entries, and how it is made in place. Assumes nothing.
-use mathlib.Core.Path.{_≡_, refl, sym, ap, _∙_}
+use mathlib.Core.Path.{_≡_, refl, _∙_}
 use mathlib.Core.Bool.{true}
 use mathlib.Core.List.{List, [], _∷_, map}
 use Prim.Native.Nat.{ℕ, zero, suc, _+_, _*_, _<_, _≤_}
-use native.Mathlib.Nat.{suc-ne-zero}
 use native.Mathlib.Omega.{arith}
 use borrow.Author.Tests.{leb-true, le-leb}
 use lib.IntN.{ℤ, pos, natAbs, _+ℤ_, _*ℤ_}
-use lib.ListN.{length, getD, set, length-set, length-map, List·getD-map}
-use lib.Seq.{getD-set-same, getD-set-other}
+use lib.ListN.{length, getD, set, length-map, List·getD-map}
 use Rattle.laws.specs.Lists.{every}
 use Rattle.laws.proofs.Bounds.{abs-add, abs-mul}
 use Rattle.laws.proofs.Entries.{every-anywhere, every-of}

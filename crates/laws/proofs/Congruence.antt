@@ -1,12 +1,12 @@
 -- Congruence of whole numbers modulo m, and residues. Assumes nothing.
 use mathlib.Core.Path.{_≡_, refl, sym, _∙_, ap}
-use mathlib.Core.List.{List, [], _∷_}
-use Prim.Native.Nat.{ℕ, zero, suc, _+_, _*_, _-_, _/_, _%_, _<_, _≤_}
+use mathlib.Core.List.{[], _∷_}
+use Prim.Native.Nat.{ℕ, zero, suc, _+_, _*_, _-_, _/_, _%_, _<_}
 use native.Mathlib.Nat.{div-add-mod', mod-lt, mod-eq-of-lt}
 use native.Mathlib.Omega.{arith}
 use lib.IntN.{ℤ, pos, negsuc, negℤ, _+ℤ_, _-ℤ_, _*ℤ_}
 use Rattle.laws.specs.Integers.{residue}
-use Rattle.laws.proofs.Linear.{above, under, eq-in, eq-out, sum, multiple}
+use Rattle.laws.proofs.Linear.{eq-in, eq-out, sum, multiple}
 use Rattle.laws.proofs.Solver.{v, k, _⊕_, _⊗_, neg, ring}
 
 -- x is y and a multiple of m

@@ -1,12 +1,12 @@
 -- The entries and the lengths of vectors that are joined, mapped or given by a rule. Assumes nothing.
-use mathlib.Core.Path.{_≡_, refl, sym, ap, ap₂, _∙_}
-use mathlib.Core.Bool.{Bool, true, false, _&&_}
+use mathlib.Core.Path.{_≡_, refl, sym, ap, _∙_}
+use mathlib.Core.Bool.{Bool, true, _&&_}
 use mathlib.Core.List.{List, [], _∷_, _++_, map}
-use Prim.Native.Nat.{ℕ, zero, suc, _+_, _<_, _≤_}
+use Prim.Native.Nat.{ℕ, zero, suc, _+_, _<_}
 use native.Mathlib.Nat.{not-suc-le-zero, le-of-suc-le-suc, suc-inj, suc-ne-zero}
 use native.Mathlib.Omega.{arith}
-use lib.ListN.{length, take, drop, getD, replicate, length-map, List·getD-append, List·getD-map, length-append}
-use lib.Seq.{ext-getD, getD-append-add}
+use lib.ListN.{length, getD}
+use lib.Seq.{ext-getD}
 use Rattle.laws.specs.Lists.{every, zipWith, tabulate}
 use Rattle.laws.proofs.Chain.{and-left, and-right}
 

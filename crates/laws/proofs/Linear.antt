@@ -2,7 +2,7 @@
 -- sums of whole numbers is one of sums of naturals. `le-in`, `lt-in` and `eq-in` turn what is known, `le-out`, `lt-out` and `eq-out` the goal, and each
 -- sum, difference or multiple in it has its own fact: omega (arith, le-in, lt-out, sum x y, ..). Assumes nothing.
 use mathlib.Core.Path.{_≡_, refl, _∙_, ap}
-use mathlib.Core.Bool.{Bool, true, false, not, cond}
+use mathlib.Core.Bool.{Bool, true, false, not}
 use Prim.Native.Nat.{ℕ, zero, suc, _+_, _*_, _-_, _<_, _≤_}
 use native.Mathlib.Omega.{arith}
 use lib.Dec.{T, leb, ltb, leb→le, le→leb, ltb→lt, lt→ltb, nltb→le, nleb→lt}

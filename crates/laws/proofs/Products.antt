@@ -1,6 +1,6 @@
 -- The laws of sums and products of whole numbers that the library lacks: products distribute over sums and are associative. Assumes nothing.
-use mathlib.Core.Path.{_≡_, refl, sym, _∙_, ap}
-use Prim.Native.Nat.{ℕ, zero, suc}
+use mathlib.Core.Path.{_≡_, sym, _∙_, ap}
+use Prim.Native.Nat.{zero, suc}
 use lib.IntN.{ℤ, pos, negsuc, negℤ, predℤ, _+ℤ_, _-ℤ_, _*ℤ_, +ℤ-sucℤ, +ℤ-predℤ, +ℤ-idl, +ℤ-idr, +ℤ-assoc, +ℤ-comm, +ℤ-invr, +ℤ-invl, zero-*ℤ, sucℤ-*ℤ, predℤ-*ℤ, *ℤ-comm}
 
 -- ---- sums, regrouped

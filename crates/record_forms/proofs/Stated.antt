@@ -1,21 +1,19 @@
 -- A header states a set exactly where the record has the set's total and opens with the set's header. Assumes nothing.
 use mathlib.Core.Path.{_≡_, refl, sym, ap, ap₂, _∙_}
-use mathlib.Core.Bool.{Bool, true, false, cond}
+use mathlib.Core.Bool.{Bool, true}
 use mathlib.Core.List.{List, [], _∷_, _++_}
 use Prim.Native.Nat.{ℕ, zero, suc, _+_, _-_, _<_, _≤_}
-use native.Mathlib.Nat.{not-suc-le-zero, le-of-suc-le-suc}
 use native.Mathlib.Omega.{arith}
 use borrow.Author.Tests.{eq-eqb, eqb-true, le-leb, leb-true}
-use lib.Dec.{eqb, leb, eqb→eq, lit<, lit≤}
-use lib.ListN.{length, take, drop, getD, length-take}
+use lib.Dec.{eqb, leb, lit<, lit≤}
+use lib.ListN.{length, take, drop, getD}
 use lib.Seq.{take-suc, take-take, getD-take}
 use Rattle.laws.specs.Refusals.{must}
-use Rattle.laws.proofs.Bounds.{cond-ind}
 use Rattle.laws.proofs.Chain.{through}
 use Rattle.sets.specs.declared.Set.{Set}
 use Rattle.sets.specs.declared.Asked.{Asked}
 use Rattle.sets.specs.declared.Asked.the-variants.{Known, Unknown}
-use Rattle.sets.specs.Numbers.{kappaOf, totalOf, numberOf, namedOf}
+use Rattle.sets.specs.Numbers.{totalOf, numberOf, namedOf}
 use Rattle.sets.proofs.Alike.{each, named-back, named-is}
 use Rattle.answers.specs.Outcomes.{forSet}
 use Rattle.record_forms.specs.declared.Header.{Header}

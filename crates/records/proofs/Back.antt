@@ -1,6 +1,6 @@
 -- A signature that is not refused is the one in its record, and a record of bytes whose header states a set is that of the signature in it. Assumes nothing.
 use mathlib.Core.Path.{_≡_, refl, sym, ap, ap₂, _∙_}
-use mathlib.Core.Bool.{Bool, true, false}
+use mathlib.Core.Bool.{true}
 use mathlib.Core.List.{List, [], _∷_, _++_, map, append-assoc, append-nil}
 use Prim.Native.Nat.{ℕ, zero, suc, _+_, _*_, _-_, _^_, _≤_, _<_}
 use native.Mathlib.Nat.{mul-le-mul, le-refl}
@@ -11,9 +11,8 @@ use lib.ListN.{length, take, drop, getD, length-append, length-drop}
 use lib.Pow.{pow-mono}
 use lib.Seq.{take-at, take-all, drop-at, getD-drop, length-take-le}
 use Rattle.sets.specs.declared.Set.{Set}
-use Rattle.sets.specs.Numbers.{dimension, kappaOf, dOf, largestOf, totalOf}
+use Rattle.sets.specs.Numbers.{dimension, kappaOf, totalOf}
 use Rattle.sets.proofs.Alike.{d-positive, largest-small}
-use Rattle.answers.specs.declared.Outcome.{Outcome}
 use Rattle.answers.specs.declared.Outcome.the-variants.{Done, ImproperList}
 use Rattle.answers.specs.Outcomes.{isDone}
 use Rattle.answers.proofs.Calls.{done-is, done-next}
@@ -21,7 +20,7 @@ use Rattle.vectors.specs.Places.{properList}
 use Rattle.vectors.proofs.Rising.{proper-place}
 use Rattle.limits.specs.LengthRule.{lengthRule}
 use Rattle.limits.proofs.Rule.{first-within, second-within}
-use Rattle.byte_codes.specs.Bytes.{packed, unpacked, complement, signed}
+use Rattle.byte_codes.specs.Bytes.{unpacked, signed}
 use Rattle.record_forms.specs.Headers.{z1Offset, z2Offset, listOffset, headerOf, part}
 use Rattle.byte_codes.proofs.Sections.{unpacked-packed, packed-unpacked, take-small}
 use Rattle.byte_codes.proofs.WholeNumbers.{numbers-back, bytes-back}

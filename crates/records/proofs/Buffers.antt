@@ -2,7 +2,7 @@
 use mathlib.Core.Path.{_≡_, refl, sym, ap, _∙_}
 use mathlib.Core.Bool.{Bool, true, false, not}
 use mathlib.Core.List.{List, _++_, map}
-use Prim.Native.Nat.{ℕ, _+_, _*_, _-_, _≤_, _<_}
+use Prim.Native.Nat.{ℕ, _+_, _*_, _-_, _≤_}
 use native.Mathlib.Omega.{arith}
 use borrow.Author.Tests.{not-false}
 use lib.IntN.{ℤ}
@@ -23,10 +23,10 @@ use Rattle.record_forms.specs.declared.Header.the-variants.{States}
 use Rattle.byte_codes.specs.Bytes.{unpacked}
 use Rattle.record_forms.specs.Headers.{listOffset, part, headerIn}
 use Rattle.byte_codes.proofs.Sections.{length-unpacked}
-use Rattle.record_forms.proofs.Stated.{Stated, stated}
+use Rattle.record_forms.proofs.Stated.{stated}
 use Rattle.records.specs.Signatures.{Signature, signature, signatureIn, refusalOf}
-use Rattle.records.specs.Writer.{Written, written}
-use Rattle.records.specs.Reader.{Found, found}
+use Rattle.records.specs.Writer.{written}
+use Rattle.records.specs.Reader.{found}
 
 -- ---- lengths
 

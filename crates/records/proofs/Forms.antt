@@ -1,19 +1,17 @@
 -- A signature of the right lengths: the lengths of its sections, and its record written piece after piece. Assumes nothing.
 use mathlib.Core.Path.{_≡_, refl, sym, ap, _∙_}
 use mathlib.Core.List.{List, _++_, map, append-assoc}
-use Prim.Native.Nat.{ℕ, _+_, _*_, _-_, _≤_, _<_}
+use Prim.Native.Nat.{ℕ, _+_, _*_, _-_, _≤_}
 use native.Mathlib.Omega.{arith}
 use borrow.Rule.Slice.PartMut.{putMid, post-is}
-use lib.IntN.{ℤ}
-use lib.ListN.{length, take, drop, length-append, length-map}
+use lib.ListN.{length, drop, length-append, length-map}
 use lib.Seq.{take-at, drop-at}
-use Rattle.sets.specs.declared.Set.{Set}
 use Rattle.sets.specs.Numbers.{dimension, kappaOf, totalOf}
 use Rattle.byte_codes.specs.Bytes.{packed, complement}
 use Rattle.record_forms.specs.Headers.{z1Offset, z2Offset, listOffset, headerOf}
 use Rattle.byte_codes.proofs.Sections.{length-packed}
 use Rattle.record_forms.proofs.Stated.{header-long}
-use Rattle.records.specs.Signatures.{Signature, signature, z1Bytes, z2Bytes, listBytes, recordOf}
+use Rattle.records.specs.Signatures.{Signature, z1Bytes, z2Bytes, listBytes, recordOf}
 
 pub record Sized (g : Signature) : Type 0 where
   pub z1-long : length (g .z1) ≡ dimension

@@ -1,15 +1,14 @@
 -- Demand 2: "A record written reads back as the same signature, and a record that reads is the one that the writer makes of it." Over the definitions that
 -- the calls' contracts cite, for all sets at once. Assumes nothing.
 use mathlib.Core.Path.{_≡_, refl, sym, ap, _∙_}
-use mathlib.Core.Bool.{Bool, true, false}
+use mathlib.Core.Bool.{true, false}
 use mathlib.Core.List.{List, _++_, map}
 use Prim.Native.Nat.{ℕ, _+_, _≤_, _<_}
-use native.Mathlib.Omega.{arith}
-use borrow.Author.Tests.{eq-eqb, eqb-true, le-leb, leb-true, ltb-true}
-use lib.Dec.{eqb, leb, lit<}
+use borrow.Author.Tests.{eq-eqb, eqb-true, le-leb, ltb-true}
+use lib.Dec.{eqb, leb}
 use lib.IntN.{ℤ}
 use lib.ListN.{length, take, drop, getD, length-map}
-use lib.Seq.{take-at, take-length}
+use lib.Seq.{take-at}
 use Rattle.laws.specs.Lists.{every}
 use Rattle.laws.proofs.Chain.{through, differ}
 use Rattle.laws.proofs.Entries.{every-anywhere}
@@ -27,11 +26,11 @@ use Rattle.record_forms.specs.declared.Header.the-variants.{States, Malformed}
 use Rattle.byte_codes.specs.Bytes.{isByte, unpacked, signed}
 use Rattle.record_forms.specs.Headers.{z1Offset, z2Offset, listOffset, part, headerIn, opened}
 use Rattle.byte_codes.proofs.Sections.{length-unpacked}
-use Rattle.record_forms.proofs.Stated.{Stated, stated, states-back}
+use Rattle.record_forms.proofs.Stated.{stated, states-back}
 use Rattle.records.specs.Signatures.{Signature, signature, z1Bytes, z2Bytes, listBytes, recordOf, signatureIn, refusalOf}
 use Rattle.records.specs.Writer.{Written, written, writingFor, writingOf}
-use Rattle.records.specs.Reader.{Found, found, readingFor, readingOf}
-use Rattle.record_forms.specs.Sections.{Fetched, fetched, sectionOf, z1Section, z2Section, listSection}
+use Rattle.records.specs.Reader.{found, readingFor, readingOf}
+use Rattle.record_forms.specs.Sections.{fetched, sectionOf, z1Section, z2Section, listSection}
 use Rattle.records.proofs.Buffers.{refusal-proper}
 use Rattle.records.proofs.Forms.{Sized}
 use Rattle.records.proofs.Back.{z1-part, z2-part, list-part, record-stated, signature-back, record-back}

@@ -11,7 +11,7 @@ use Rattle.answers.specs.declared.Outcome.{Outcome}
 use Rattle.answers.specs.declared.Outcome.the-variants.{Done, WrongLength, HeaderMalformed}
 use Rattle.answers.specs.Outcomes.{unless}
 use Rattle.record_forms.specs.Headers.{headerIn, opened}
-use Rattle.records.specs.Signatures.{Signature, signatureIn, refusalOf}
+use Rattle.records.specs.Signatures.{signatureIn, refusalOf}
 
 -- what the reader leaves behind: its answer, the set, and the buffers of z1, z2 dagger and the list
 pub data Found : Type 0 where

@@ -5,7 +5,6 @@ use lib.Dec.{eqb, leb}
 use lib.IntN.{ℤ}
 use lib.ListN.{length, drop}
 use Rattle.laws.specs.Refusals.{must}
-use Rattle.sets.specs.declared.Set.{Set}
 use Rattle.sets.specs.Numbers.{dimension, totalOf, askedOf}
 use Rattle.answers.specs.declared.Outcome.{Outcome}
 use Rattle.answers.specs.declared.Outcome.the-variants.{Done, UnknownSet, WrongLength, OutputShort}

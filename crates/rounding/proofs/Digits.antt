@@ -1,21 +1,19 @@
 -- Upper digits by their steps, and the residues and centred numbers modulo p. Assumes nothing.
 use mathlib.Core.Path.{_≡_, refl, sym, ap, _∙_}
-use mathlib.Core.Bool.{Bool, true, false, cond}
 use mathlib.Core.List.{[], _∷_}
 use Prim.Native.Nat.{ℕ, suc, _+_, _*_, _-_, _/_, _%_, _^_, _<_, _≤_}
 use native.Mathlib.Nat.{div-lt-iff-lt-mul, suc-mul, mod-lt, mod-eq-of-lt, mod-self}
 use native.Mathlib.Omega.{arith}
 use borrow.Author.Tests.{lt-ltb, le-ltb}
-use lib.Dec.{ltb, lit<}
-use lib.IntN.{ℤ, pos, negℤ, natAbs, _+ℤ_, _-ℤ_, _*ℤ_, +ℤ-idl}
+use lib.IntN.{ℤ, pos, _+ℤ_, _-ℤ_, _*ℤ_}
 use Rattle.laws.specs.Integers.{residue}
-use Rattle.laws.proofs.Linear.{above, under, sum, difference, opposite, eq-out, size-le, eq-in}
-use Rattle.laws.proofs.Congruence.{Cong, cong-eq, cong-trans, cong-multiple, residue-is, residue-small, residue-same, residue-lt, residue-cong, cong-sym, cong-add, cong-refl, cong-mod}
-use Rattle.laws.proofs.Solver.{v, k, _⊕_, _⊖_, _⊗_, ring}
+use Rattle.laws.proofs.Linear.{sum, difference, eq-out}
+use Rattle.laws.proofs.Congruence.{Cong, cong-eq, cong-trans, cong-multiple, residue-is, residue-small, residue-same, residue-cong, cong-sym, cong-add, cong-refl, cong-mod}
+use Rattle.laws.proofs.Solver.{v, k, _⊕_, _⊗_, ring}
 use Rattle.sets.specs.declared.Set.{Set}
-use Rattle.sets.specs.Numbers.{twiceModulus, factor, dOf, pOf}
-use Rattle.sets.proofs.Alike.{spread, half-step, step-positive, p-positive, p-even, p-small}
-use Rattle.rounding.specs.Rounding.{upper, centred, summed, dagger, restored}
+use Rattle.sets.specs.Numbers.{twiceModulus, dOf, pOf}
+use Rattle.sets.proofs.Alike.{spread, half-step, step-positive, p-positive, p-even}
+use Rattle.rounding.specs.Rounding.{upper, centred}
 
 pub upper-lt : (s : Set) (x : ℕ) → upper s x < pOf s
 unfolding upper

@@ -1,7 +1,6 @@
 -- The points of upper digits that 01, "Reference points", marks to be proved, as one table. Assumes nothing.
 use mathlib.Core.Path.{_≡_, refl}
-use mathlib.Core.List.{List, [], _∷_, map}
-use Prim.Native.Nat.{ℕ}
+use mathlib.Core.List.{[], _∷_, map}
 use Rattle.sets.specs.declared.Set.the-variants.{I, II, III, IV}
 use Rattle.rounding.specs.Rounding.{upper}
 

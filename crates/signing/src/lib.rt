@@ -10,7 +10,6 @@ ghost use Rattle.sets.specs.Numbers.{dimension, places, kappaOf, keyLimitOf};
 ghost use Rattle.ring.specs.Transform.{spectrumOf};
 ghost use Rattle.vectors.specs.Vectors.{within, squares, sizes};
 ghost use Rattle.vectors.specs.Places.{properList};
-ghost use Rattle.keys.specs.Key.{properKey, sized};
 ghost use Rattle.commitment.specs.Commitment.{isReduced, areMasks, sums};
 ghost use Rattle.choices.specs.Choices.{pair, signed};
 ghost use Rattle.signing.specs.Response.{responded, firstTrial, secondTrial, daggers, given, drawn, signedWith, tested, responseFor, response};

@@ -1,5 +1,4 @@
 use borrow.Author.Tests.{eq-eqb, ne-eqb}
-use borrow.Author.Needs.{needs}
 use Rattle.bursztok.proofs.part_at.Statement.{statement}
 use Rattle.bursztok.proofs.part_at.Tie as tie
 

@@ -1,5 +1,4 @@
-use mathlib.Core.Path.{_≡_, refl, sym, ap, _∙_}
-use mathlib.Core.Bool.{true}
+use mathlib.Core.Path.{_≡_, sym, ap, _∙_}
 use mathlib.Core.List.{List}
 use Prim.Native.Nat.{ℕ, _-_, _<_, _≤_}
 use native.Mathlib.Omega.{arith}
@@ -8,9 +7,8 @@ use lib.Dec.{lit<}
 use lib.IntN.{ℤ, pos}
 use lib.ListN.{length, take, getD, set}
 use lib.Seq.{take-all}
-use mir.Syntax.{w16}
 use Rattle.laws.proofs.Entries.{every-at}
-use Rattle.laws.proofs.Machine.{fits, positive}
+use Rattle.laws.proofs.Machine.{fits}
 use Rattle.sets.specs.Numbers.{dimension, modulus}
 use Rattle.vectors.specs.Places.{isPlace}
 use Rattle.checking.specs.Checking.{marks}

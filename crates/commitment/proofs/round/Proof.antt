@@ -1,6 +1,6 @@
 use mathlib.Core.Path.{_≡_, sym, ap, _∙_}
 use mathlib.Core.List.{List, map}
-use Prim.Native.Nat.{ℕ, _-_, _%_, _<_, _≤_}
+use Prim.Native.Nat.{ℕ, _-_, _%_, _≤_}
 use native.Mathlib.Nat.{mod-eq-of-lt}
 use native.Mathlib.Omega.{arith}
 use borrow.Author.Needs.{needs}
@@ -9,7 +9,7 @@ use lib.ListN.{length, getD, length-map}
 use Rattle.laws.proofs.Entries.{getD-map}
 use Rattle.laws.proofs.Loops.{Rewritten, start, more, finish}
 use Rattle.sets.specs.declared.Set.{Set}
-use Rattle.sets.specs.Numbers.{dimension, twiceModulus, pOf}
+use Rattle.sets.specs.Numbers.{dimension, twiceModulus}
 use Rattle.sets.proofs.Alike.{p-small}
 use Rattle.rounding.specs.Rounding.{upper}
 use Rattle.rounding.proofs.Digits.{upper-lt}

@@ -2,19 +2,16 @@ use mathlib.Core.Path.{_≡_, refl, ap, _∙_}
 use mathlib.Core.Bool.{true}
 use mathlib.Core.List.{List}
 use Prim.Native.Nat.{ℕ}
-use native.Mathlib.Omega.{arith}
 use borrow.Author.Needs.{needs}
 use lib.Dec.{lit≤}
 use lib.IntN.{ℤ}
-use lib.ListN.{length}
 use Rattle.laws.specs.Lists.{every}
 use Rattle.laws.proofs.Chain.{stop, pass, passed}
-use Rattle.sets.specs.Numbers.{dimension}
 use Rattle.vectors.specs.Vectors.{within}
 use Rattle.vectors.proofs.Ranges.{within-wider}
 use Rattle.keys.specs.Key.{inRange, second, properKey}
 use Rattle.keys.proofs.Ranges.{f-small, g-small}
-use Rattle.keys.proofs.Second.{second-within, length-second}
+use Rattle.keys.proofs.Second.{second-within}
 use Rattle.keys.proofs.examine.Statement.{statement}
 use Rattle.keys.proofs.examine.Tie as tie
 

@@ -1,11 +1,10 @@
 use mathlib.Core.Path.{_≡_, refl, sym, ap, _∙_}
-use mathlib.Core.Bool.{true}
 use mathlib.Core.List.{List}
 use Prim.Native.Nat.{ℕ, _+_, _-_, _*_, _<_, _≤_}
 use native.Mathlib.Omega.{arith}
 use borrow.Author.Tests.{leb-true}
 use lib.Dec.{lit≤}
-use lib.IntN.{ℤ, pos, natAbs, _+ℤ_, _*ℤ_}
+use lib.IntN.{ℤ, pos, natAbs, _+ℤ_}
 use lib.ListN.{length, getD, set, length-set}
 use mir.Syntax.{w16}
 use mir.Val.{toZ, ofZ}
@@ -15,7 +14,6 @@ use Rattle.laws.proofs.Loops.{Rewritten, start, next-is, more, finish}
 use Rattle.laws.proofs.Machine.{Reads, element, held, mul-ok, mul-is, add-ok, add-is}
 use Rattle.sets.specs.Numbers.{dimension}
 use Rattle.vectors.specs.Vectors.{within}
-use Rattle.keys.specs.Key.{second}
 use Rattle.keys.proofs.Second.{double, doubled, length-doubled, getD-doubled, second-is}
 use Rattle.keys.proofs.make_second.Statement.{statement}
 use Rattle.keys.proofs.make_second.Tie as tie

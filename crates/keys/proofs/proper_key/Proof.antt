@@ -1,19 +1,15 @@
-use mathlib.Core.Path.{_≡_, refl, sym, ap, ap₂, _∙_}
+use mathlib.Core.Path.{_≡_}
 use mathlib.Core.Bool.{true, false}
-use mathlib.Core.List.{List, map}
-use Prim.Native.Nat.{ℕ, _+_, _<_, _≤_}
+use mathlib.Core.List.{List}
+use Prim.Native.Nat.{_+_}
 use native.Mathlib.Omega.{arith}
 use borrow.Author.Needs.{needs}
 use borrow.Author.Tests.{lt-leb, le-leb}
 use lib.Dec.{leb}
 use lib.IntN.{ℤ}
-use Rattle.laws.specs.Integers.{residue}
-use Rattle.laws.specs.Lists.{same}
-use Rattle.laws.specs.Refusals.{must}
 use Rattle.laws.proofs.Chain.{failed, passed}
 use Rattle.sets.specs.declared.Set.{Set}
-use Rattle.sets.specs.Numbers.{modulus, keyLimitOf}
-use Rattle.vectors.specs.Vectors.{squares}
+use Rattle.sets.specs.Numbers.{keyLimitOf}
 use Rattle.vectors.proofs.Ranges.{within-at}
 use Rattle.vectors.proofs.Sums.{squares-le}
 use Rattle.keys.specs.Key.{keyLength, relation, properKey}

@@ -1,12 +1,11 @@
-use mathlib.Core.Path.{_≡_, sym, ap, _∙_}
-use Prim.Native.Nat.{ℕ, _+_, _<_, _≤_}
+use mathlib.Core.Path.{sym, _∙_}
+use Prim.Native.Nat.{_+_, _<_}
 use native.Mathlib.Omega.{arith}
 use lib.Dec.{T, lit<}
-use lib.IntN.{ℤ, pos, natAbs, _+ℤ_, _*ℤ_}
+use lib.IntN.{ℤ, pos, natAbs, _+ℤ_}
 use lib.Signed.{nonNeg, pos-natAbs}
 use mir.Syntax.{w16}
 use mir.Val.{toZ, ofZ}
-use Rattle.laws.specs.Integers.{residue}
 use Rattle.laws.proofs.Congruence.{cong-eq, cong-sym, cong-trans, cong-multiple, residue-is}
 use Rattle.laws.proofs.Linear.{above, under, size, size-le, sum, nonneg, lt-yes, lt-no}
 use Rattle.laws.proofs.Machine.{Reads, fits, given, held, add-ok, add-is, lt-is, unsigned-ok, unsigned-is}

@@ -1,6 +1,6 @@
 use mathlib.Core.Path.{_∙_}
 use Rattle.records.specs.Signatures.{signature}
-use Rattle.records.proofs.Forms.{Sized, pieces}
+use Rattle.records.proofs.Forms.{pieces}
 use borrow.Author.Needs.{needs}
 use Rattle.records.proofs.pack.Statement.{statement}
 use Rattle.records.proofs.pack.Tie as tie

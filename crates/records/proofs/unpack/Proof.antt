@@ -1,4 +1,3 @@
-use lib.ListN.{length}
 use Rattle.byte_codes.specs.Bytes.{signed}
 use Rattle.records.proofs.Buffers.{kappa-room, front-long, places-long, places-read, entries-read}
 use borrow.Author.Needs.{needs}

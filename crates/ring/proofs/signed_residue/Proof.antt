@@ -1,6 +1,6 @@
 -- `ring::signed_residue` meets its contract: z + 3q is not negative. Assumes nothing.
 use mathlib.Core.Path.{ap, _∙_}
-use Prim.Native.Nat.{_*_, _%_}
+use Prim.Native.Nat.{_*_}
 use borrow.Author.Needs.{needs}
 use lib.Dec.{lit≤, lit<}
 use lib.IntN.{pos}

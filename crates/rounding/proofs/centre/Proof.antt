@@ -1,14 +1,12 @@
-use mathlib.Core.Path.{_≡_, sym, ap, _∙_}
+use mathlib.Core.Path.{ap, _∙_}
 use Prim.Native.Nat.{ℕ, _-_, _/_, _<_, _≤_}
 use native.Mathlib.Omega.{arith}
 use borrow.Author.Needs.{needs}
-use lib.IntN.{ℤ, pos, _-ℤ_}
+use lib.IntN.{pos, _-ℤ_}
 use mir.Syntax.{w8}
-use mir.Val.{toZ, ofZ}
 use Rattle.laws.proofs.Machine.{Reads, fits, positive, held, sub-ok, sub-is}
 use Rattle.sets.specs.Numbers.{pOf}
 use Rattle.sets.proofs.Alike.{p-small, p-even}
-use Rattle.rounding.specs.Rounding.{centred}
 use Rattle.rounding.proofs.Digits.{centre-low, centre-high}
 use Rattle.rounding.proofs.centre.Statement.{statement}
 use Rattle.rounding.proofs.centre.Tie as tie

@@ -1,4 +1,4 @@
-use mathlib.Core.Path.{_≡_, sym, ap, _∙_}
+use mathlib.Core.Path.{ap, _∙_}
 use Prim.Native.Nat.{ℕ, _+_, _<_, _≤_}
 use native.Mathlib.Omega.{arith}
 use borrow.Author.Needs.{needs}
@@ -7,9 +7,8 @@ use lib.IntN.{ℤ, pos, natAbs, _+ℤ_}
 use lib.Signed.{nonNeg, pos-natAbs}
 use mir.Syntax.{w8, w32}
 use mir.Val.{toZ, ofZ}
-use Rattle.laws.proofs.Linear.{above, under, size, size-le, sum, nonneg}
+use Rattle.laws.proofs.Linear.{size, size-le, sum, nonneg}
 use Rattle.laws.proofs.Machine.{Reads, fits, given, positive, cast-ok, cast-is, add-ok, add-is, unsigned-ok, unsigned-is}
-use Rattle.sets.specs.Numbers.{pOf}
 use Rattle.sets.proofs.Alike.{p-small}
 use Rattle.rounding.proofs.raise.Statement.{statement}
 use Rattle.rounding.proofs.raise.Tie as tie

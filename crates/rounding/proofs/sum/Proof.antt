@@ -1,9 +1,8 @@
-use mathlib.Core.Path.{_≡_, sym, ap, _∙_}
-use mathlib.Core.List.{[], _∷_}
-use Prim.Native.Nat.{ℕ, _+_, _*_, _%_}
+use mathlib.Core.Path.{sym, ap, _∙_}
+use Prim.Native.Nat.{_+_, _*_}
 use borrow.Author.Needs.{needs}
 use lib.Dec.{lit<}
-use lib.IntN.{ℤ, pos, _+ℤ_, _*ℤ_, +ℤ-assoc}
+use lib.IntN.{ℤ, pos, _+ℤ_, +ℤ-assoc}
 use Rattle.laws.proofs.Machine.{given}
 use Rattle.sets.specs.Numbers.{twiceModulus, factor}
 use Rattle.rounding.specs.Rounding.{summed}

@@ -1,9 +1,9 @@
-use mathlib.Core.Path.{_≡_, refl, sym, ap, _∙_}
+use mathlib.Core.Path.{_≡_, sym, ap, _∙_}
 use Prim.Native.Nat.{ℕ, _+_, _/_, _%_, _^_, _<_}
 use native.Mathlib.Omega.{arith}
 use borrow.Author.Needs.{needs}
 use Rattle.sets.specs.declared.Set.{Set}
-use Rattle.sets.specs.Numbers.{twiceModulus, dOf, pOf}
+use Rattle.sets.specs.Numbers.{twiceModulus, dOf}
 use Rattle.sets.proofs.Alike.{d-small}
 use Rattle.rounding.proofs.Digits.{upper-last, upper-inner}
 use Rattle.rounding.proofs.upper_digits.Statement.{statement}

@@ -1,16 +1,13 @@
-use mathlib.Core.Path.{_≡_, sym, ap, ap₂, _∙_}
-use mathlib.Core.Bool.{true, false}
-use Prim.Native.Nat.{ℕ, _+_, _*_, _<_, _≤_}
+use mathlib.Core.Path.{_≡_, ap, ap₂, _∙_}
+use Prim.Native.Nat.{ℕ, _+_, _*_, _<_}
 use native.Mathlib.Omega.{arith}
-use lib.Dec.{T}
 use lib.IntN.{ℤ, pos, negℤ, natAbs, _+ℤ_, _-ℤ_, +ℤ-idl}
-use lib.Signed.{nonNeg}
 use mir.Syntax.{w32}
 use mir.Val.{toZ, ofZ}
 use Rattle.laws.proofs.Bounds.{abs-add, abs-neg}
-use Rattle.laws.proofs.Linear.{above, under, size, difference, nonneg, lt-yes, lt-no}
-use Rattle.laws.proofs.Machine.{Reads, given, element, held, add-ok, add-is, sub-ok, sub-is, lt-is, unsigned-ok, unsigned-is}
-use Rattle.vectors.specs.Vectors.{inner, sizes}
+use Rattle.laws.proofs.Linear.{above, under, difference, nonneg, lt-yes, lt-no}
+use Rattle.laws.proofs.Machine.{Reads, element, held, add-ok, add-is, sub-ok, sub-is, lt-is, unsigned-ok, unsigned-is}
+use Rattle.vectors.specs.Vectors.{inner}
 use Rattle.vectors.proofs.Sums.{inner-le-sizes}
 use Rattle.signing.proofs.second_trial.Statement.{statement}
 use Rattle.signing.proofs.second_trial.Tie as tie

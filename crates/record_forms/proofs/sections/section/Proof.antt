@@ -9,7 +9,7 @@ use Rattle.record_forms.specs.declared.Header.{Header}
 use Rattle.record_forms.specs.declared.Header.the-variants.{States}
 use Rattle.record_forms.specs.Headers.{headerIn}
 use Rattle.record_forms.proofs.Ways.{calls}
-use Rattle.record_forms.specs.Sections.{Fetched, fetched, sectionOf}
+use Rattle.record_forms.specs.Sections.{fetched, sectionOf}
 use borrow.Author.Needs.{needs}
 use Rattle.record_forms.proofs.sections.section.Statement.{statement}
 use Rattle.record_forms.proofs.sections.section.Tie as tie

@@ -1,5 +1,5 @@
 use native.Mathlib.Omega.{arith}
-use Rattle.record_forms.proofs.Stated.{Stated, stated}
+use Rattle.record_forms.proofs.Stated.{stated}
 use borrow.Author.Needs.{needs}
 use Rattle.record_forms.proofs.sections.z2_section.Statement.{statement}
 use Rattle.record_forms.proofs.sections.z2_section.Tie as tie
