@@ -12,8 +12,8 @@ use Rattle.laws.proofs.Chain.{passed}
 use Rattle.sets.specs.declared.Set.{Set}
 use Rattle.sets.specs.declared.Asked.{Asked}
 use Rattle.sets.specs.declared.Asked.the-variants.{Known, Unknown}
-use Rattle.sets.specs.Numbers.{dimension, listLimit, kappaOf, totalOf, numberOf, askedOf}
-use Rattle.sets.proofs.Alike.{asked-back, kappa-within}
+use Rattle.sets.specs.Numbers.{dimension, listLimit, recordLimit, kappaOf, totalOf, numberOf, askedOf}
+use Rattle.sets.proofs.Alike.{asked-back, kappa-within, total-within}
 use Rattle.answers.specs.declared.Outcome.{Outcome}
 use Rattle.answers.specs.declared.Outcome.the-variants.{Done}
 use Rattle.answers.specs.Outcomes.{isDone, filled}
@@ -91,13 +91,10 @@ module _ {set : ℕ} {a : List ℕ} {y1 y2 : List ℤ} {l : List ℕ} {z1 z2 : L
   known-set r e f = let asked = w .writable .asked in cc
 
 -- ---- after the writer
-pub record-room : (s : Set) → totalOf s ≤ 1638
-record-room s = omega (arith, kappa-within s)
+pub total-room : (n total : ℕ) (s : Set) → total ≡ totalOf s → n ≡ recordLimit → total ≤ n
+total-room n total s e f = omega (arith, total-within s)
 
-pub total-room : (n total : ℕ) (s : Set) → total ≡ totalOf s → n ≡ 1638 → total ≤ n
-total-room n total s e f = omega (arith, record-room s)
-
-pub record-long : (out : List ℕ) (total : ℕ) (s : Set) → total ≡ totalOf s → length out ≡ 1638 → total ≡ length (take total out)
+pub record-long : (out : List ℕ) (total : ℕ) (s : Set) → total ≡ totalOf s → length out ≡ recordLimit → total ≡ length (take total out)
 record-long out total s e f = sym (length-take-le total out (total-room (length out) total s e f))
 
 module _ (set : ℕ) (s : Set) (a : List ℕ) (z1 z2 : List ℤ) (l rounded : List ℕ) (w : Writable set s a z1 z2 l rounded) where

@@ -67,12 +67,12 @@ fn accepted(
     }
 }
 
-// The writer. The longest record has 1,638 bytes.
+// The writer.
 fn sent(set: u32, s: Set, a: &[u16], z1: &[i16], z2: &[i8], list: &[u16], committed: &[u16]) -> bool
     requires { ⌜ Writable set s (now a) (now z1) (now z2) (now list) (now committed) ⌝ }
     ensures { λ r. ⌜ r ≡ true ⌝ }
 {
-    let mut out = [0u8; 1638];
+    let mut out = [0u8; Set::RECORD_LIMIT];
     let o = records::write(set, z1, z2, list, &mut out);
     if !o.is_done() {
         return false;

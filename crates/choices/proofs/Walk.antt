@@ -10,7 +10,7 @@ use lib.IntN.{ℤ}
 use lib.ListN.{length, getD, drop, drop-of-length-le}
 use lib.Seq.{drop-cons}
 use Rattle.laws.specs.Lists.{every}
-use Rattle.sets.specs.Numbers.{dimension}
+use Rattle.sets.specs.Numbers.{dimension, listLimit}
 use Rattle.vectors.specs.Vectors.{within, squares}
 use Rattle.vectors.proofs.Ranges.{within-at}
 use Rattle.vectors.proofs.Sums.{squares-le}
@@ -40,13 +40,13 @@ module _ (s : Pair) (l : List ℕ) where
     unfolding chooseFrom
     walk-end h = sym (so .left ∙ ap (λ (r : List ℕ). chooseFrom s r v) (drop-of-length-le l h))
 
--- ---- 113 columns of entries of at most 5, and one more
+-- ---- as many columns as any list has, of entries of at most 5, and one more
 squares-small : (x : List ℤ) → length x ≡ dimension → every (within 5) x ≡ true → squares x ≤ 12800
 squares-small x e h = omega (arith, squares-le 5 x (within-at 5 x h))
 
 -- squared lengths stay small
 pub walk-room : (s : Pair) → Sized s → every (within 5) (s .first) ≡ true → every (within 5) (s .second) ≡ true
-    → (k : ℕ) (v : Pair) → k ≤ 113 → Short s k v → squaresPair v + squaresPair s ≤ 2 ^ 26
+    → (k : ℕ) (v : Pair) → k ≤ listLimit → Short s k v → squaresPair v + squaresPair s ≤ 2 ^ 26
 walk-room s key h j k v places short =
     let small : squaresPair s ≤ 25600 = omega (arith, squares-small (s .first) (key .first) h, squares-small (s .second) (key .second) j) in
     omega (arith, short .bound, mul-le-mul places small)

@@ -4,17 +4,17 @@ ghost use mathlib.Core.Bool.{true};
 ghost use Prim.Native.Nat.{_+_, _^_, _≤_};
 ghost use lib.ListN.{length};
 ghost use Rattle.laws.specs.Lists.{every, zipWith};
-ghost use Rattle.sets.specs.Numbers.{dimension};
+ghost use Rattle.sets.specs.Numbers.{dimension, listLimit};
 ghost use Rattle.vectors.specs.Vectors.{within, squares};
 ghost use Rattle.vectors.specs.Places.{isPlace};
 ghost use Rattle.choices.specs.Choices.{pair, signed, chosen, choices, zeros};
 use sets::Set;
 
-// v1 and v2 come as all zeros and leave as the sign choices. With entries of at most 5 and at most 113 places |v|² is at most 113 times 25,600, which
+// v1 and v2 come as all zeros and leave as the sign choices. With entries of at most 5 and at most 39 places |v|² is at most 39 times 25,600, which
 // bounds entries and inner products.
 pub fn choose(s1: &[i16], s2: &[i16], list: &[u16], v1: &mut [i16], v2: &mut [i16])
     requires { ⌜ (length (now s1) ≡ dimension) × (length (now s2) ≡ dimension) × (every (within 5) (now s1) ≡ true) × (every (within 5) (now s2) ≡ true) ⌝ }
-    requires { ⌜ (length (now list) ≤ 113) × (every isPlace (now list) ≡ true) ⌝ }
+    requires { ⌜ (length (now list) ≤ listLimit) × (every isPlace (now list) ≡ true) ⌝ }
     requires { ⌜ (now v1 ≡ zeros) × (now v2 ≡ zeros) ⌝ }
     ensures { λ _. ⌜ pair (now (v1 .exit)) (now (v2 .exit)) ≡ choices (pair (now (s1 .entry)) (now (s2 .entry))) (now (list .entry)) ⌝ }
 {

@@ -27,7 +27,7 @@ fn wide_rule(s: Set, z1: &[i16], z2: &[i16]) -> Outcome
     if !first.is_done() {
         return first;
     }
-    let second = first_beyond(z2, s.largest(), factor(s), Set::DIMENSION as u32);
+    let second = first_beyond(z2, s.largest(), s.step(), Set::DIMENSION as u32);
     if !second.is_done() {
         return second;
     }
@@ -50,19 +50,12 @@ fn first_beyond(x: &[i16], limit: u32, factor: u32, start: u32) -> Outcome
     Outcome::Done
 }
 
-// 2^d.
-fn factor(s: Set) -> u32
-    ensures { λ r. ⌜ r ≡ 2 ^ dOf s ⌝ }
-{
-    1 << s.d()
-}
-
 // The squares of z1 and 4^d times those of z2 dagger. Set I's sum can pass 2^32 where every entry is within "largest".
 fn weighted_sum(s: Set, z1: &[i16], z2: &[i16]) -> u64
     requires { ⌜ (length (now z1) ≡ dimension) × (length (now z2) ≡ dimension) ⌝ }
     requires { ⌜ (squares (now z1) < 2 ^ 39) × (squares (now z2) < 2 ^ 39) ⌝ }
     ensures { λ r. ⌜ r ≡ squares (now (z1 .entry)) + 4 ^ dOf s * squares (now (z2 .entry)) ⌝ }
 {
-    let factor = factor(s) as u64;
+    let factor = s.step() as u64;
     vectors::squared_length(z1) + factor * factor * vectors::squared_length(z2)
 }

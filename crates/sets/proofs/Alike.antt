@@ -9,7 +9,7 @@ use Rattle.sets.specs.declared.Set.{Set}
 use Rattle.sets.specs.declared.Set.the-variants.{I, II, III, IV}
 use Rattle.sets.specs.declared.Asked.{Asked}
 use Rattle.sets.specs.declared.Asked.the-variants.{Known, Unknown}
-use Rattle.sets.specs.Numbers.{twiceModulus, maskLimit, listLimit, kappaOf, dOf, pOf, largestOf, keyLimitOf, totalOf, numberOf, namedOf, askedOf}
+use Rattle.sets.specs.Numbers.{twiceModulus, maskLimit, listLimit, recordLimit, kappaOf, dOf, pOf, largestOf, keyLimitOf, totalOf, numberOf, namedOf, askedOf}
 
 -- a statement about a set, from its four cases
 pub each : (P : Set → Type 0) → P I → P II → P III → P IV → (s : Set) → P s
@@ -75,6 +75,9 @@ first-trial = each _ (lit< tt) (lit< tt) (lit< tt) (lit< tt)
 -- nor has the second's: a coefficient of z is at most a mask's and kappa columns' of at most 5, and the absolute values of v sum to at most kappa K
 pub second-trial : (s : Set) → 2 * ((maskLimit + 5 * kappaOf s) * (kappaOf s * keyLimitOf s)) < 2 ^ 31
 second-trial = each _ (lit< tt) (lit< tt) (lit< tt) (lit< tt)
+
+pub total-within : (s : Set) → totalOf s ≤ recordLimit
+total-within = each _ (lit≤ tt) (lit≤ tt) (lit≤ tt) (lit≤ tt)
 
 pub total-small : (s : Set) → totalOf s < 2 ^ 16
 total-small = each _ (lit< tt) (lit< tt) (lit< tt) (lit< tt)

@@ -37,6 +37,10 @@ places = 31
 abbrev pub listLimit : ℕ
 listLimit = 39
 
+-- the bytes of the longest record of any set
+abbrev pub recordLimit : ℕ
+recordLimit = 1638
+
 -- ---- of each set
 
 -- kappa: the places of a challenge list

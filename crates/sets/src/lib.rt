@@ -38,6 +38,9 @@ impl Set {
     // The entries of a reader's list buffer: as many as any set's list has.
     pub const LIST_LIMIT: usize = 39;
 
+    // The bytes of the longest record of any set.
+    pub const RECORD_LIMIT: usize = 1638;
+
     pub fn kappa(self) -> usize
         ensures { λ r. ⌜ r ≡ kappaOf self ⌝ }
     {

@@ -13,7 +13,7 @@ use Rattle.laws.specs.Lists.{every, zipWith}
 use Rattle.laws.specs.Refusals.{must}
 use Rattle.laws.proofs.Chain.{and-left, and-right}
 use Rattle.sets.specs.declared.Set.{Set}
-use Rattle.sets.specs.Numbers.{dimension, places, kappaOf, keyLimitOf}
+use Rattle.sets.specs.Numbers.{dimension, places, listLimit, kappaOf, keyLimitOf}
 use Rattle.sets.proofs.Alike.{kappa-within}
 use Rattle.answers.specs.declared.Outcome.{Outcome}
 use Rattle.answers.specs.declared.Outcome.the-variants.{Done, RelationBroken, KeyTooLong}
@@ -58,7 +58,7 @@ short-key s a s1 s2 e =
     leb-true (keyLength s1 s2) (keyLimitOf s)
     (done-test KeyTooLong (must (relation a s1 s2) RelationBroken Done) refl (leb (keyLength s1 s2) (keyLimitOf s)) e)
 
-pub few-places : (s : Set) (l : List ℕ) → properList s l ≡ true → length l ≤ 113
+pub few-places : (s : Set) (l : List ℕ) → properList s l ≡ true → length l ≤ listLimit
 few-places s l proper = omega (arith, proper-count s l proper, kappa-within s)
 
 -- ---- v

@@ -1,5 +1,6 @@
-use Rattle.agreement.proofs.Given.{never, record-room, total-room, record-long, wrote, readable-front}
+use Rattle.agreement.proofs.Given.{never, total-room, record-long, wrote, readable-front}
 use borrow.Author.Needs.{needs}
+use Rattle.sets.proofs.Alike.{total-within}
 use Rattle.agreement.proofs.sent.Statement.{statement}
 use Rattle.agreement.proofs.sent.Tie as tie
 
@@ -19,7 +20,7 @@ returns : tie.Need-returns
 returns c =
     let w = c .before .before .before in
     let a = start w .args in
-    never _ _ (c .before .is-done .ensures) (c .if1 .taken) (wrote _ _ _ _ _ _ _ (start w .pre) _ _ _ (record-room (a .s)) (w .write .ensures))
+    never _ _ (c .before .is-done .ensures) (c .if1 .taken) (wrote _ _ _ _ _ _ _ (start w .pre) _ _ _ (total-within (a .s)) (w .write .ensures))
 
 total-requires : tie.Need-total-requires
 total-requires c κs = search needs
@@ -34,7 +35,7 @@ received-requires : tie.Need-received-requires
 received-requires c κs =
     let w = c .before .before .before .before .before in
     let a = start w .args in
-    readable-front _ _ _ _ _ _ _ (start w .pre) _ _ _ (record-room (a .s)) (w .write .ensures) _ (c .before .total .ensures)
+    readable-front _ _ _ _ _ _ _ (start w .pre) _ _ _ (total-within (a .s)) (w .write .ensures) _ (c .before .total .ensures)
 
 returns-2 : tie.Need-returns-2
 returns-2 c = search needs

@@ -9,21 +9,21 @@ use Rattle.sets.proofs.Alike.{d-small, step-squared}
 use Rattle.limits.proofs.weighted_sum.Statement.{statement}
 use Rattle.limits.proofs.weighted_sum.Tie as tie
 
-module _ (c : tie.After-factor) where
-  squared : c .factor .result * c .factor .result ≡ 4 ^ dOf (c .before .args .s)
-  squared = ap (λ (n : ℕ). n * n) (c .factor .ensures) ∙ step-squared (c .before .args .s)
+module _ (c : tie.After-step) where
+  squared : c .step .result * c .step .result ≡ 4 ^ dOf (c .before .args .s)
+  squared = ap (λ (n : ℕ). n * n) (c .step .ensures) ∙ step-squared (c .before .args .s)
 
-  small : c .factor .result * c .factor .result ≤ 2 ^ 20
-  small = let h : c .factor .result ≤ 2 ^ 10 = omega (arith, c .factor .ensures, pow-mono (d-small (c .before .args .s))) in mul-le-mul h h
+  small : c .step .result * c .step .result ≤ 2 ^ 20
+  small = let h : c .step .result ≤ 2 ^ 10 = omega (arith, c .step .ensures, pow-mono (d-small (c .before .args .s))) in mul-le-mul h h
 
 product-small : (c : tie.After-squared-length2)
-    → c .before .before .factor .result * c .before .before .factor .result * c .squared-length2 .result ≤ 2 ^ 59
+    → c .before .before .step .result * c .before .before .step .result * c .squared-length2 .result ≤ 2 ^ 59
 product-small c =
     let h : c .squared-length2 .result ≤ 2 ^ 39 = omega (arith, c .squared-length2 .ensures) in
     mul-le-mul (small (c .before .before)) h
 
-factor-requires : tie.Need-factor-requires
-factor-requires c κs = search needs
+step-requires : tie.Need-step-requires
+step-requires c κs = search needs
 
 cast-factor : tie.Need-cast-factor
 cast-factor c = search needs
@@ -50,7 +50,7 @@ pub weighted-sum-spec : {M : Type 1} → statement M
 weighted-sum-spec =
     tie.close
     (tie.spec
-    factor-requires
+    step-requires
     cast-factor
     squared-length-requires
     mul-result

@@ -46,8 +46,8 @@ returns c =
 largest-requires-2 : tie.Need-largest-requires-2
 largest-requires-2 c κs = search needs
 
-factor-requires : tie.Need-factor-requires
-factor-requires c κs = search needs
+step-requires : tie.Need-step-requires
+step-requires c κs = search needs
 
 cast-first-beyond : tie.Need-cast-first-beyond
 cast-first-beyond c = search needs
@@ -55,7 +55,7 @@ cast-first-beyond c = search needs
 first-beyond-requires-2 : tie.Need-first-beyond-requires-2
 first-beyond-requires-2 c κs =
     let s = c .before .before .before .before .before .before in
-    (s .pre .1, omega (arith, c .factor .ensures, pow-mono (d-small (s .args .s))), lit≤ tt)
+    (s .pre .1, omega (arith, c .step .ensures, pow-mono (d-small (s .args .s))), lit≤ tt)
 
 is-done-requires-2 : tie.Need-is-done-requires-2
 is-done-requires-2 c κs = search needs
@@ -74,7 +74,7 @@ module _ (c : tie.After-is-done2) where
   second-is : c .before .first-beyond2 .result ≡ second
   second-is =
       c .before .first-beyond2 .ensures
-      ∙ ap₂ (λ (n f : ℕ). entries n f dimension (Z .args .z2 .now) Done) (c .before .before .before .largest2 .ensures) (c .before .before .factor .ensures)
+      ∙ ap₂ (λ (n f : ℕ). entries n f dimension (Z .args .z2 .now) Done) (c .before .before .before .largest2 .ensures) (c .before .before .step .ensures)
 
   onward : (x next : Outcome) → x ≡ unless second (λ o. o) next → x ≡ unless (first (F .before)) (λ o. o) (unless second (λ o. o) next)
   onward x next e = admitted _ _ _ (λ o. o) x _ (first-is (F .before)) (F .before .is-done .ensures) (F .if1 .left) e
@@ -138,7 +138,7 @@ wide-rule-spec =
     is-done-requires
     returns
     largest-requires-2
-    factor-requires
+    step-requires
     cast-first-beyond
     first-beyond-requires-2
     is-done-requires-2
