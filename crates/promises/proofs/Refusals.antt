@@ -5,6 +5,7 @@ use mathlib.Core.List.{List, [], _∷_}
 use Prim.Native.Nat.{ℕ, suc, _*_, _≤_}
 use native.Mathlib.Omega.{arith}
 use borrow.Author.Needs.{needs}
+use borrow.Author.Tests.{eq-eqb}
 use lib.Dec.{leb}
 use lib.IntN.{ℤ, natAbs}
 use lib.ListN.{length}
@@ -15,6 +16,7 @@ use Rattle.sets.specs.declared.Asked.the-variants.{Known, Unknown}
 use Rattle.answers.specs.declared.Outcome.{Outcome}
 use Rattle.answers.specs.declared.Outcome.the-variants.{Done, Rejected, WordMissing, EntryBeyond, SumAbove}
 use Rattle.answers.specs.Outcomes.{numberOf, forSet, Filled, filled}
+use Rattle.answers.proofs.Calls.{done-is}
 use Rattle.limits.specs.LengthRule.{entries, lengthRule}
 use Rattle.keys.specs.Key.{properKey}
 use Rattle.commitment.specs.Commitment.{commitment}
@@ -28,7 +30,10 @@ use Rattle.record_forms.specs.declared.Header.the-variants.{States, Malformed}
 use Rattle.record_forms.specs.Headers.{opened}
 use Rattle.records.specs.Writer.{Written, written, writingFor, writingOf}
 use Rattle.records.specs.Reader.{Found, found, readingFor, readingOf}
-use Rattle.promises.specs.Demands.{CommitmentKeeps, RebuildKeeps, ResponseKeeps, WriterKeeps, ReaderKeeps, ResponseCounts}
+use Rattle.promises.specs.Demands.{OnlyDone, CommitmentKeeps, RebuildKeeps, ResponseKeeps, WriterKeeps, ReaderKeeps, ResponseCounts}
+
+pub only-done : OnlyDone
+only-done = (refl, λ o e. done-is o (eq-eqb (numberOf o) 0 e))
 
 -- ---- what holds of every way through a chain holds of its answer
 record Holds {A : Type 0} (P : A → Type 0) (x : A) : Type 0 where
@@ -58,14 +63,14 @@ ruleset ways = (needs, must-either, set-either, walk-either, header-either)
 
 -- ---- what a call has left is what was there, where its answer is not 0: `answer` and `left` read these two off
 abbrev Keeps : {A B : Type 0} → (A → Outcome) → (A → B) → B → A → Type 0
-Keeps answer left old x = (answer x ≡ Done → ⊥) → left x ≡ old
+Keeps answer left old x = (numberOf (answer x) ≡ 0 → ⊥) → left x ≡ old
 
 module _ {A B : Type 0} (answer : A → Outcome) (left : A → B) (old : B) where
   kept : (x : A) → left x ≡ old → Holds (Keeps answer left old) x
   kept x e = record { is = λ n. e }
 
   done : (x : A) → answer x ≡ Done → Holds (Keeps answer left old) x
-  done x e = record { is = λ n. absurd (n e) }
+  done x e = record { is = λ n. absurd (n (ap numberOf e)) }
 
 ruleset ends = (refl, kept, done)
 
@@ -132,7 +137,7 @@ respondedLeft (responded o count after1 after2) = (after1, after2)
 
 -- ---- its count
 abbrev Counts : ℕ → Responded → Type 0
-Counts lent (responded o count after1 after2) = (1 ≤ numberOf o → numberOf o ≤ 7 → count ≡ 0) × (o ≡ WordMissing → count ≡ lent)
+Counts lent (responded o count after1 after2) = (1 ≤ numberOf o → numberOf o ≤ 7 → count ≡ 0) × (numberOf o ≡ 9 → count ≡ lent)
 
 -- the tests before the draw answer at most 7
 abbrev Early : Outcome → Type 0
@@ -170,17 +175,17 @@ early-key s a s1 s2 = search (ways, early)
 
 module _ (lent : ℕ) (z1 z2 : List ℤ) where
   counts-early : (o : Outcome) → Holds Early o → Holds (Counts lent) (responded o 0 z1 z2)
-  counts-early o h = record { is = (λ m n. refl, λ e. let nine : numberOf o ≡ 9 = ap numberOf e in absurd (omega (arith, h .is))) }
+  counts-early o h = record { is = (λ m n. refl, λ e. absurd (omega (arith, h .is))) }
 
   counts-short : Holds (Counts lent) (responded WordMissing lent z1 z2)
   counts-short = record { is = (λ m n. absurd (omega arith), λ e. refl) }
 
   counts-rejected : (count : ℕ) → Holds (Counts lent) (responded Rejected count z1 z2)
-  counts-rejected count = record { is = (λ m n. absurd (omega arith), λ e. let nine : numberOf Rejected ≡ 9 = ap numberOf e in absurd (omega arith)) }
+  counts-rejected count = record { is = (λ m n. absurd (omega arith), λ e. absurd (omega arith)) }
 
   counts-late : (count : ℕ) (o : Outcome) → Holds Late o → Holds (Counts lent) (responded o count z1 z2)
   counts-late count o h =
-      record { is = (λ m n. absurd (omega (arith, h .is m)), λ e. let nine : numberOf o ≡ 9 = ap numberOf e in absurd (omega (arith, h .is (omega arith)))) }
+      record { is = (λ m n. absurd (omega (arith, h .is m)), λ e. absurd (omega (arith, h .is (omega arith)))) }
 
 module _ (set : ℕ) (f g : List ℤ) (a : List ℕ) (y1 y2 : List ℤ) (l : List ℕ) (bit : Bool) (thresholds words : List ℕ) (out1 out2 : List ℤ) where
   response-holds : Holds (Keeps respondedAnswer respondedLeft (out1, out2)) (response set f g a y1 y2 l bit thresholds words out1 out2)

@@ -1,4 +1,5 @@
--- The published form: the steps of document 004, Algorithms 1, 2, 3 and 5, in its notation, beside the definitions of the calls, which follow paper 01.
+-- The published form: steps of document 004, Algorithms 1, 2, 3 and 5, in its notation, beside the definitions of the calls, which follow paper 01. Those that
+-- both papers write alike (rounding, z2 dagger) have no statement here.
 -- The public key is A = (a₁, q - 2) modulo 2q with a₁ = 2a, the secret key is S = (s₁, s₂) = (f, 2g + 1), and ζ inverts q - 2 modulo 2q.
 use mathlib.Core.Path.{_≡_}
 use mathlib.Core.Logic.{_↔_}

@@ -1,0 +1,73 @@
+-- The numbers of the draw's trials. Assumes nothing.
+use mathlib.Core.Path.{_≡_, refl, ap}
+use mathlib.Core.Bool.{Bool, true, not}
+use mathlib.Core.List.{List}
+use Prim.Native.Nat.{ℕ, _+_, _*_, _^_, _<_, _≤_}
+use native.Mathlib.Omega.{arith}
+use lib.Dec.{lit≤}
+use lib.IntN.{ℤ, natAbs, _+ℤ_}
+use lib.ListN.{length}
+use Rattle.laws.specs.Lists.{zipWith}
+use Rattle.laws.proofs.Bounds.{abs-add}
+use Rattle.sets.specs.declared.Set.{Set}
+use Rattle.sets.specs.Numbers.{dimension, places, kappaOf, keyLimitOf}
+use Rattle.sets.proofs.Alike.{first-trial}
+use Rattle.answers.specs.Outcomes.{isDone}
+use Rattle.vectors.specs.Vectors.{squares, inner, sizes}
+use Rattle.vectors.specs.Places.{properList}
+use Rattle.vectors.proofs.Ranges.{within-wider}
+use Rattle.vectors.proofs.Sums.{inner-le-sizes}
+use Rattle.keys.specs.Key.{second}
+use Rattle.keys.proofs.Ranges.{f-small, g-small}
+use Rattle.keys.proofs.Second.{second-within}
+use Rattle.commitment.specs.Commitment.{areMasks}
+use Rattle.choices.specs.Choices.{Pair, pair, signed, choices}
+use Rattle.choices.proofs.Pairs.{Sized, Within}
+use Rattle.signing.specs.Response.{masked}
+use Rattle.signing.proofs.Numbers.{first-mask, second-mask, sizes-z, trial-fits}
+use Rattle.signing.proofs.Ways.{short-key, chosen-sized, chosen-short, chosen-within}
+use Rattle.promises.specs.Demands.{TrialsFit}
+use Rattle.promises.proofs.Keys.{Tested, key-tested, key-tested-for, key-sized}
+
+module _ (s : Set) (f g : List ℤ) (a l : List ℕ) (key : Tested s f g a) (proper : properList s l ≡ true) where
+  abbrev v : Pair
+  v = choices (pair f (second g)) l
+
+  key-512 : Sized (pair f (second g))
+  key-512 = key-sized f g (key .long-f) (key .long-g)
+
+  sized : Sized (pair (v .first) (v .second))
+  sized = chosen-sized s f (second g) l (key-512 .first) (key-512 .second) proper (v .first) (v .second) refl
+
+  pub short : squares (v .first) + squares (v .second) ≤ kappaOf s * keyLimitOf s
+  short = chosen-short s f (second g) l (key-512 .first) (key-512 .second) proper (v .first) (v .second) refl (short-key s a f (second g) (ap isDone (key .proper)))
+
+  small : Within (kappaOf s * 5) (pair (v .first) (v .second))
+  small =
+      chosen-within s f (second g) l (key-512 .first) (key-512 .second) proper (v .first) (v .second) refl
+      (within-wider 2 5 f (lit≤ tt) (f-small f g a (key .ranges)))
+      (second-within g (g-small f g a (key .ranges)))
+
+  module _ (y1 y2 : List ℤ) (bit : Bool) (l1 : length y1 ≡ dimension) (l2 : length y2 ≡ dimension) (masks : areMasks y1 y2 ≡ true) where
+    abbrev z1 : List ℤ
+    z1 = zipWith (signed (not bit)) y1 (v .first)
+
+    abbrev z2 : List ℤ
+    z2 = zipWith (signed (not bit)) y2 (v .second)
+
+    fits : sizes z1 (v .first) + sizes z2 (v .second) < 2 ^ 30
+    fits =
+        trial-fits s (sizes z1 (v .first)) (sizes z2 (v .second)) (squares (v .first)) (squares (v .second))
+        (sizes-z s y1 (v .first) (first-mask y1 y2 masks) (λ k. omega (arith, small .first k)) l1 (sized .first) bit)
+        (sizes-z s y2 (v .second) (second-mask y1 y2 masks) (λ k. omega (arith, small .second k)) l2 (sized .second) bit)
+        short
+
+    pub second-fits : 2 * natAbs (inner z1 (v .first) +ℤ inner z2 (v .second)) < 2 ^ places
+    second-fits =
+        omega (arith, abs-add (inner z1 (v .first)) (inner z2 (v .second)), inner-le-sizes z1 (v .first), inner-le-sizes z2 (v .second), fits)
+
+pub trials-fit : TrialsFit
+unfolding masked
+trials-fit set s f g a y1 y2 l bit known passes l1 l2 masks proper =
+    let key = key-tested s f g a (key-tested-for set s f g a known passes) in
+    (short s f g a l key proper, omega (arith, first-trial s), second-fits s f g a l key proper y1 y2 bit l1 l2 masks)
