@@ -1,7 +1,7 @@
 # The project's commands. `make` alone lists them.
 RT ?= rt
 CC ?= cc
-override RT := $(or $(abspath $(shell command -v $(RT))),$(RT))
+override RT := $(or $(shell found=$$(command -v "$(RT)") && readlink -f "$$found"),$(RT))
 export RT CC
 TIME ?= 600
 CASES ?= 3000
@@ -12,7 +12,7 @@ SOURCES = $(shell find crates -name '*.rt' -o -name '*.antt')
 CARGO = cd host && cargo
 RUN = $(CARGO) run --quiet --release --offline --bin
 
-.PHONY: help test check lib demo host-test example bench soak vectors toolchain
+.PHONY: help test check lib demo host-test example bench soak vectors cargo toolchain
 
 help: ## lists the targets
 	@sed -n 's/^\([a-z-]*\):.*## /\1|/p' Makefile | awk -F'|' '{ printf "make %-10s %s\n", $$1, $$2 }'
@@ -21,22 +21,22 @@ test: ## proves every crate and tries the library; the last line is 'N passed, 0
 	@tools/test
 
 check: toolchain ## proves what has changed since the last check
-	$(RT) check
+	@"$(RT)" check
 
 lib: toolchain $(LIBRARY) $(BRIDGE) ## makes target/staticlib/libbursztok.a; its header is include/bursztok.h
 
 $(LIBRARY): crates.txt $(SOURCES)
 	@echo "proving what has changed and building $(LIBRARY) (some minutes the first time)"
 	@mkdir -p target/log
-	@$(RT) staticlib bursztok >target/log/library.log 2>&1 || { tail -n 30 target/log/library.log; exit 1; }
+	@"$(RT)" staticlib bursztok >target/log/library.log 2>&1 || { tail -n 30 target/log/library.log; exit 1; }
 
 target/staticlib/bridge: $(LIBRARY) host/bindings/bridge.c include/bursztok.h
 	@tools/x86-64 compile $@ host/bindings/bridge.c $(LIBRARY)
 
-demo: lib ## signs a sheet on one side and checks it on the other, and shows damaged records refused
+demo: cargo lib ## signs a sheet on one side and checks it on the other, and shows damaged records refused
 	@$(RUN) bursztok -- demo
 
-host-test: lib ## the tests of host/, and CASES random cases of the library against the second program
+host-test: cargo lib ## the tests of host/, and CASES random cases of the library against the second program
 	@$(CARGO) test --quiet --offline
 	@$(RUN) bursztok-compare -- --cases $(CASES)
 
@@ -44,18 +44,21 @@ example: lib ## compiles and runs examples/sheet.c
 	@tools/x86-64 compile target/sheet examples/sheet.c $(LIBRARY)
 	@tools/x86-64 run target/sheet
 
-bench: lib ## calls a second beside the second program, and instructions by callgrind (on x86-64)
+bench: cargo lib ## calls a second beside the second program, and instructions by callgrind (on x86-64)
 	@tools/x86-64 here || { echo "not an x86-64 machine: the library runs under an emulator here, and what is measured would say nothing"; exit 1; }
 	@$(RUN) bursztok-bench
 	@$(RUN) bursztok-bench -- --instructions
-	@$(RT) check ring_bench choices_bench
+	@"$(RT)" check ring_bench choices_bench
 	@tools/instructions
 
-soak: lib ## random cases of the library against the second program for TIME seconds
+soak: cargo lib ## random cases of the library against the second program for TIME seconds
 	@$(RUN) bursztok-compare -- --seconds $(TIME)
 
-vectors: ## writes the second program's vectors, which the program replay runs
+vectors: cargo ## writes the second program's vectors, which the program replay runs
 	@$(RUN) bursztok-vectors -- ../crates/replay/data/vectors.bin
 
+cargo:
+	@command -v cargo >/dev/null || { echo "cargo is not found: what is in host/ is Rust"; exit 1; }
+
 toolchain:
-	@command -v $(RT) >/dev/null || { echo "rt is not found: the Rattle toolchain is needed (put its bin/ on PATH, or run make RT=its/rt)"; exit 1; }
+	@[ -f "$(RT)" ] && [ -x "$(RT)" ] || { echo "rt is not found: the Rattle toolchain is needed (put its bin/ on PATH, or run make RT=its/rt)"; exit 1; }

@@ -9,7 +9,7 @@ fn main() {
     let crate_folder = std::env::var_os("CARGO_MANIFEST_DIR").expect("cargo sets it");
     let project = PathBuf::from(crate_folder).join("../..");
     let folder = match std::env::var_os("BURSZTOK_LIB_DIR") {
-        Some(folder) => PathBuf::from(folder),
+        Some(folder) => std::path::absolute(folder).expect("a folder has a name"),
         None => project.join("target/staticlib"),
     };
     let linked = std::env::var("CARGO_CFG_TARGET_ARCH").is_ok_and(|name| name == "x86_64");

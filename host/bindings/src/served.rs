@@ -45,6 +45,23 @@ impl Bridge {
     }
 }
 
+fn started(bridge: &mut Option<Bridge>) -> io::Result<&mut Bridge> {
+    if bridge.is_none() {
+        *bridge = Some(Bridge::start()?);
+    }
+    Ok(bridge.as_mut().expect("it was started"))
+}
+
+/// Without the library no call has an answer, so nothing can go on.
+fn lost(error: &io::Error) -> ! {
+    let bridge = env!("BURSZTOK_BRIDGE");
+    let _ = writeln!(
+        io::stderr(),
+        "the library cannot be asked: {bridge} does not answer ({error}); 'make lib' makes it"
+    );
+    std::process::exit(2)
+}
+
 /// A call, by its place in `bursztok.h`, and what the bridge answers: the form is in `bridge.c`.
 fn ask(
     call: u32,
@@ -63,14 +80,9 @@ fn ask(
         request.extend(buffer);
     }
     let mut bridge = BRIDGE.lock().unwrap_or_else(PoisonError::into_inner);
-    if bridge.is_none() {
-        *bridge = Some(Bridge::start().expect("the bridge to the library starts"));
-    }
-    let [number, place, more, length] = bridge
-        .as_mut()
-        .expect("it was started")
-        .ask(&request, written)
-        .expect("the bridge to the library answers");
+    let [number, place, more, length] = started(&mut bridge)
+        .and_then(|bridge| bridge.ask(&request, written))
+        .unwrap_or_else(|error| lost(&error));
     let answer = Answer {
         number: number as u32,
         place: place as u32,
