@@ -1,7 +1,8 @@
 /*
  * Signs a cargo sheet on the ship and checks it on the shore, through bursztok.h.
  *
- *   cc -std=c99 -Wall -Wextra -Werror -pedantic -I include examples/sheet.c libbursztok.a -o sheet
+ *   cc -std=c99 -Wall -Wextra -Werror -pedantic -I include examples/sheet.c \
+ *      target/staticlib/libbursztok.a -o sheet
  *   ./sheet ["text of the sheet"]
  *
  * The key, the noise and the hash are for show only. A box has its own key, draws masks from a

@@ -31,8 +31,9 @@
  *     7   key longer than K
  *     8   rejected by the draw
  *     9   the walk needs a word and none is left
- *    10   entry beyond "largest", with the first place: z1 is 0 .. 511, z2 dagger 512 .. 1023
- *    11   sum of squares above B2 squared
+ *    10   entry beyond "largest", with the first place: z1 is 0 .. 511, z2 dagger 512 .. 1023.
+ *         An entry of z2 dagger counts 2^d times: 2^d |z2| is compared with "largest"
+ *    11   sum of squares, that of z1 and 4^d times that of z2 dagger, above B2 squared
  *    12   both lists are proper and differ
  *    13   header malformed, with the first byte of the first wrong field; shorter than 24 bytes,
  *         its length
@@ -186,8 +187,9 @@ bursztok_answer bursztok_write(uint32_t set,
                                uint8_t *out, size_t out_len);
 
 /*
- * The record reader. record_len must be exactly the length of the record: any other is 13 at 18
- * (under 24, at the length). list_len must be 39.
+ * The record reader. record_len must be exactly the length of the record: under 24 bytes it is 13
+ * at the length, and with the fields before byte 18 right any other length is 13 at 18. list_len
+ * must be 39.
  *
  * Refusals in order: 2, 13, 5, 10, 11. Number 0 writes all of z1 and z2 (512 entries each) and
  * the first kappa entries of list; the entries after them keep their contents.
@@ -202,7 +204,7 @@ bursztok_reading bursztok_read(const uint8_t *record, size_t record_len,
  * an entry) and the list bytes (two a place, low byte first) lie in the lent record. They test the
  * header only, with the record's length.
  *
- * Refusals: 13 only, and then the part is 0 .. 0. *number and *place are written always.
+ * Refusals: 13 only, and then start and length of the part are 0. *number and *place are written always.
  */
 bursztok_part bursztok_z1_section(const uint8_t *record, size_t record_len,
                                   uint32_t *number, uint32_t *place);
