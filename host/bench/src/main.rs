@@ -3,8 +3,9 @@
 
 mod work;
 
+use second::console::arguments;
 use second::testing::calls::Call;
-use second::Set;
+use second::{say, warn, Set};
 use std::process::{Command, ExitCode};
 use std::time::{Duration, Instant};
 use work::{Side, Work, MEASURED};
@@ -23,11 +24,14 @@ CALL is key-test, commitment, response, rebuild, write or read. Each works on on
 key with the published counts; buffers are not cleared in between. The default of --milliseconds
 is 200 for each call and side.
 
-Exit status: 0 done, 1 valgrind failed, 2 bad usage.";
+Exit status: 0 done, 1 no instructions counted, 2 bad usage.";
 
 /// What all inputs are made from.
 const SEED: u64 = 1;
 const TURNS: u32 = 5;
+
+/// Whether the library runs in another process, under an emulator.
+const EMULATED: bool = !cfg!(target_arch = "x86_64");
 
 #[derive(Default)]
 struct Options {
@@ -41,18 +45,15 @@ struct Options {
 }
 
 fn main() -> ExitCode {
-    let words: Vec<String> = std::env::args().skip(1).collect();
+    let words = arguments();
     if words.iter().any(|word| word == "--help" || word == "-h") {
-        println!("{USAGE}");
+        say!("{USAGE}");
         return ExitCode::SUCCESS;
-    }
-    if !cfg!(target_arch = "x86_64") {
-        eprintln!("bench: the library runs under an emulator here, so its times say nothing");
     }
     match parse(&words) {
         Ok(options) => run(&options),
         Err(message) => {
-            eprintln!("bench: {message}; try --help");
+            warn!("bench: {message}; try --help");
             ExitCode::from(2)
         }
     }
@@ -60,8 +61,13 @@ fn main() -> ExitCode {
 
 fn parse(words: &[String]) -> Result<Options, String> {
     let mut options = Options::default();
+    let mut seen = Vec::new();
     let mut words = words.iter();
     while let Some(name) = words.next() {
+        if seen.contains(&name) {
+            return Err(format!("{name} is given twice"));
+        }
+        seen.push(name);
         let mut value = || words.next().ok_or(format!("{name} wants a value"));
         let number = |word: &String| {
             word.parse::<u64>()
@@ -89,6 +95,9 @@ fn parse(words: &[String]) -> Result<Options, String> {
     if options.run.is_some() != options.times.is_some() {
         return Err("--run and --times go together".to_string());
     }
+    if options.run.is_some() && options.instructions {
+        return Err("--instructions and --run do not go together".to_string());
+    }
     Ok(options)
 }
 
@@ -112,6 +121,9 @@ fn run(options: &Options) -> ExitCode {
     if options.instructions {
         return count_instructions(&sets, options.symbol.as_deref());
     }
+    if EMULATED {
+        warn!("bench: the library runs under an emulator here, so its times say nothing");
+    }
     let budget = Duration::from_millis(options.milliseconds.unwrap_or(200));
     for set in sets {
         measure(set, budget);
@@ -120,10 +132,15 @@ fn run(options: &Options) -> ExitCode {
 }
 
 fn measure(set: Set, budget: Duration) {
-    println!("set {}", set.number());
-    println!(
+    say!("set {}", set.number());
+    say!(
         "  {:<11} {:>14} {:>12} {:>14} {:>12} {:>8}",
-        "call", "library /s", "a call", "second /s", "a call", "ratio"
+        "call",
+        "library /s",
+        "a call",
+        "second /s",
+        "a call",
+        "ratio"
     );
     let mut work = Work::new(set, SEED);
     for (call, name, _) in MEASURED {
@@ -137,7 +154,7 @@ fn measure(set: Set, budget: Duration) {
                 .push(turn(&mut work, Side::Second, call, budget / TURNS));
         }
         let (library, second) = (median(turns.0), median(turns.1));
-        println!(
+        say!(
             "  {:<11} {:>14.0} {:>9.2} us {:>14.0} {:>9.2} us {:>8.2}",
             name,
             1e6 / library,
@@ -169,16 +186,20 @@ fn median(mut times: Vec<f64>) -> f64 {
 
 /// Runs this program under callgrind for every call, collecting inside one symbol only.
 fn count_instructions(sets: &[Set], symbol: Option<&str>) -> ExitCode {
-    println!(
+    if EMULATED {
+        warn!("bench: the library runs under an emulator here; instructions need x86-64");
+        return ExitCode::from(1);
+    }
+    say!(
         "instructions a call, inside {}",
         symbol.unwrap_or("the exported call")
     );
     for set in sets {
         for (_, name, exported) in MEASURED {
             match instructions(*set, name, symbol.unwrap_or(exported)) {
-                Ok(count) => println!("  set {}  {name:<11} {count:>12}", set.number()),
+                Ok(count) => say!("  set {}  {name:<11} {count:>12}", set.number()),
                 Err(message) => {
-                    eprintln!("bench: {message}");
+                    warn!("bench: {message}");
                     return ExitCode::from(1);
                 }
             }
@@ -187,6 +208,7 @@ fn count_instructions(sets: &[Set], symbol: Option<&str>) -> ExitCode {
     ExitCode::SUCCESS
 }
 
+/// Instructions a call; a symbol that is never entered is a fault.
 fn instructions(set: Set, name: &str, symbol: &str) -> Result<u64, String> {
     const TIMES: u64 = 4;
     let this = std::env::current_exe().map_err(|error| error.to_string())?;
@@ -205,7 +227,29 @@ fn instructions(set: Set, name: &str, symbol: &str) -> Result<u64, String> {
         .next_back()
         .and_then(|count| count.trim().parse::<u64>().ok());
     match collected {
+        Some(0) if output.status.success() => Err(format!(
+            "no instruction counted inside {symbol}: {name} never enters it"
+        )),
         Some(count) if output.status.success() => Ok(count / TIMES),
         _ => Err(format!("valgrind failed:\n{said}")),
+    }
+}
+
+#[cfg(test)]
+mod tests {
+    use super::parse;
+
+    #[test]
+    fn bad_usage_is_told() {
+        let fault = |line: &str| {
+            let words: Vec<String> = line.split(' ').map(str::to_string).collect();
+            parse(&words).err().unwrap_or_default()
+        };
+        assert_eq!(fault("--set 1 --instructions"), "");
+        assert_eq!(fault("--sets 1"), "'--sets' is no option");
+        assert_eq!(fault("--set 1 --set 1"), "--set is given twice");
+        assert_eq!(fault("--run read"), "--run and --times go together");
+        let both = "--instructions and --run do not go together";
+        assert_eq!(fault("--run read --times 1 --instructions"), both);
     }
 }

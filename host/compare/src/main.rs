@@ -6,6 +6,8 @@ mod options;
 use compare::cases::{Found, Plan};
 use compare::tally::Tally;
 use options::Options;
+use second::console::{arguments, print};
+use second::{say, warn};
 use std::panic::{catch_unwind, AssertUnwindSafe};
 use std::process::ExitCode;
 use std::time::{Duration, Instant};
@@ -14,40 +16,45 @@ use std::time::{Duration, Instant};
 const TOLD: u64 = 10;
 
 fn main() -> ExitCode {
-    let words: Vec<String> = std::env::args().skip(1).collect();
+    let words = arguments();
     if words.iter().any(|word| word == "--help" || word == "-h") {
-        println!("{}", options::USAGE);
+        say!("{}", options::USAGE);
         return ExitCode::SUCCESS;
     }
     match Options::parse(&words) {
         Ok(options) => run(&options),
-        Err(message) => {
-            eprintln!("compare: {message}; try --help");
-            ExitCode::from(2)
-        }
+        Err(message) => bad(&message),
     }
 }
 
+fn bad(message: &str) -> ExitCode {
+    warn!("compare: {message}; try --help");
+    ExitCode::from(2)
+}
+
 fn run(options: &Options) -> ExitCode {
-    println!("seed {}", options.seed);
     let mut plan = Plan::new(options.seed);
+    if plan.planned().checked_add(options.cases).is_none() {
+        return bad(&format!("--cases is {}, too many to count", options.cases));
+    }
+    say!("seed {}", options.seed);
     let mut tally = Tally::default();
     match options.only {
         Some(number) => {
             let found = run_case(&mut plan, number);
-            println!("case {number}: {}", found.story);
+            say!("case {number}: {}", found.story);
             tell(options.seed, number, &found, &mut tally);
         }
         None => run_all(options, &mut plan, &mut tally),
     }
     if options.only.is_none() {
-        print!("{}", tally.table());
+        print(format_args!("{}", tally.table()));
         tally.require_every_number();
     }
     for number in &tally.missing {
-        println!("not reached: {number}");
+        say!("not reached: {number}");
     }
-    println!("{} passed, {} failed", tally.passed, tally.failed());
+    say!("{} passed, {} failed", tally.passed, tally.failed());
     if tally.failed() == 0 {
         ExitCode::SUCCESS
     } else {
@@ -60,7 +67,7 @@ fn run_all(options: &Options, plan: &mut Plan, tally: &mut Tally) {
     let start = Instant::now();
     let mut shown = start;
     let planned = plan.planned();
-    println!("{planned} planned cases, then {}", options.extent());
+    say!("{planned} planned cases, then {}", options.extent());
     for number in 0.. {
         let enough = match options.seconds {
             Some(seconds) => start.elapsed() >= Duration::from_secs(seconds),
@@ -73,7 +80,7 @@ fn run_all(options: &Options, plan: &mut Plan, tally: &mut Tally) {
         tell(options.seed, number, &found, tally);
         if shown.elapsed() >= Duration::from_secs(2) {
             shown = Instant::now();
-            eprintln!(
+            warn!(
                 "{} cases, {} calls compared, {} failed, {} s",
                 number + 1,
                 tally.passed + tally.wrong,
@@ -99,9 +106,9 @@ fn tell(seed: u64, number: u64, found: &Found, tally: &mut Tally) {
     if found.failures.is_empty() || tally.failing_cases > TOLD {
         return;
     }
-    println!("FAILED case {number}: {}", found.story);
+    say!("FAILED case {number}: {}", found.story);
     for failure in found.failures.iter().take(3) {
-        println!("  {failure}");
+        say!("  {failure}");
     }
-    println!("  repeat: bursztok-compare --seed {seed} --case {number}");
+    say!("  repeat: bursztok-compare --seed {seed} --case {number}");
 }

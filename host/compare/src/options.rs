@@ -26,27 +26,33 @@ pub struct Options {
 
 impl Options {
     pub fn parse(words: &[String]) -> Result<Options, String> {
-        let mut options = Options {
-            seed: date(),
-            cases: 1000,
-            seconds: None,
-            only: None,
-        };
+        let (mut seed, mut cases, mut seconds, mut only) = (None, None, None, None);
         let mut words = words.iter();
         while let Some(name) = words.next() {
+            let option = match name.as_str() {
+                "--seed" => &mut seed,
+                "--cases" => &mut cases,
+                "--seconds" => &mut seconds,
+                "--case" => &mut only,
+                _ => return Err(format!("'{name}' is no option")),
+            };
             let value = words.next().ok_or(format!("{name} wants a number"))?;
             let number: u64 = value
                 .parse()
                 .map_err(|_| format!("{name} is '{value}', expected a whole number"))?;
-            match name.as_str() {
-                "--seed" => options.seed = number,
-                "--cases" => options.cases = number,
-                "--seconds" => options.seconds = Some(number),
-                "--case" => options.only = Some(number),
-                _ => return Err(format!("'{name}' is no option")),
+            if option.replace(number).is_some() {
+                return Err(format!("{name} is given twice"));
             }
         }
-        Ok(options)
+        if cases.is_some() && seconds.is_some() {
+            return Err("--cases and --seconds do not go together".to_string());
+        }
+        Ok(Options {
+            seed: seed.unwrap_or_else(date),
+            cases: cases.unwrap_or(1000),
+            seconds,
+            only,
+        })
     }
 
     /// How far the random cases go, in words.
@@ -87,7 +93,21 @@ fn date_of(mut days: u64) -> u64 {
 
 #[cfg(test)]
 mod tests {
-    use super::date_of;
+    use super::{date_of, Options};
+
+    #[test]
+    fn bad_usage_is_told() {
+        let fault = |line: &str| {
+            let words: Vec<String> = line.split(' ').map(str::to_string).collect();
+            Options::parse(&words).err().unwrap_or_default()
+        };
+        assert_eq!(fault("--cases 5 --seed 1"), "");
+        assert_eq!(fault("--sed"), "'--sed' is no option");
+        assert_eq!(fault("--seed"), "--seed wants a number");
+        assert_eq!(fault("--seed 1 --seed 1"), "--seed is given twice");
+        let both = "--cases and --seconds do not go together";
+        assert_eq!(fault("--seconds 1 --cases 1"), both);
+    }
 
     #[test]
     fn dates() {

@@ -1,6 +1,7 @@
 //! Options of a subcommand, as `--name value`.
 
 use crate::failure::Failure;
+use second::files::same_file;
 use std::collections::BTreeMap;
 use std::path::PathBuf;
 
@@ -26,6 +27,7 @@ impl Arguments {
                 .ok_or_else(|| bad(format!("'{word}' is no option")))?;
             let value = words
                 .next()
+                .filter(|value| !value.is_empty())
                 .ok_or_else(|| bad(format!("--{name} wants a value")))?;
             if values.insert(name.to_string(), value.clone()).is_some() {
                 return Err(bad(format!("--{name} is given twice")));
@@ -52,6 +54,21 @@ impl Arguments {
             (None, Some(folder)) => Ok(PathBuf::from(folder).join(name).with_extension("txt")),
             (None, None) => Err(self.missing(name)),
         }
+    }
+
+    /// The file that an option names for output: none of the files that these name for input.
+    pub fn output(&self, name: &str, inputs: &[&str]) -> Result<PathBuf, Failure> {
+        let out = PathBuf::from(self.required(name)?);
+        for input in inputs {
+            if self.file(input).is_ok_and(|file| same_file(&file, &out)) {
+                return Err(Failure::usage(format!(
+                    "{}: --{name} names the file of {input}, {}",
+                    self.subcommand,
+                    out.display()
+                )));
+            }
+        }
+        Ok(out)
     }
 
     /// A whole number, or `default` where the option is not given.

@@ -2,8 +2,10 @@
 
 use crate::arguments::Arguments;
 use crate::failure::{Failure, Named};
-use crate::files::{joined, read_bytes, read_numbers, write_bytes, write_numbers};
-use bursztok::{Challenge, LIST, RECORD, VECTOR};
+use crate::files::{joined, read_bytes, read_numbers, text_of, write_bytes, write_folder, Vectors};
+use bursztok::{Challenge, Response, LIST, RECORD, THRESHOLDS, VECTOR};
+use second::files::{same_file, shown};
+use second::say;
 use std::path::Path;
 
 /// A signature as a record holds it.
@@ -16,69 +18,99 @@ pub struct Signature {
 
 pub fn key_test(arguments: &Arguments) -> Result<(), Failure> {
     let set = arguments.set()?;
-    let f = read_numbers(&arguments.file("f")?)?;
-    let g = read_numbers(&arguments.file("g")?)?;
-    let a = read_numbers(&arguments.file("a")?)?;
-    bursztok::key_test(set, &f, &g, &a).named("key test")?;
-    println!("The key passes the key test.");
+    let mut vectors = Vectors::default();
+    let f = vectors.read(&arguments.file("f")?, VECTOR)?;
+    let g = vectors.read(&arguments.file("g")?, VECTOR)?;
+    let a = vectors.read(&arguments.file("a")?, VECTOR)?;
+    let outcome = bursztok::key_test(set, &f, &g, &a).named("key test");
+    outcome.map_err(|failure| failure.with_counts(&vectors.wrong))?;
+    say!("The key passes the key test.");
     Ok(())
 }
 
 pub fn commit(arguments: &Arguments) -> Result<(), Failure> {
     let set = arguments.set()?;
-    let a = read_numbers(&arguments.file("a")?)?;
-    let y1 = read_numbers(&arguments.file("y1")?)?;
-    let y2 = read_numbers(&arguments.file("y2")?)?;
-    let out = arguments.required("out")?;
+    let mut vectors = Vectors::default();
+    let a = vectors.read(&arguments.file("a")?, VECTOR)?;
+    let y1 = vectors.read(&arguments.file("y1")?, VECTOR)?;
+    let y2 = vectors.read(&arguments.file("y2")?, VECTOR)?;
+    let out = arguments.output("out", &["a", "y1", "y2"])?;
     let mut committed = [0; VECTOR];
-    bursztok::commitment(set, &a, &y1, &y2, &mut committed).named("commitment")?;
-    write_numbers(Path::new(out), "commitment", &committed)?;
-    println!("The commitment is in {out}. Hash it with the sheet to make the list.");
+    let outcome = bursztok::commitment(set, &a, &y1, &y2, &mut committed).named("commitment");
+    outcome.map_err(|failure| failure.with_counts(&vectors.wrong))?;
+    write_bytes(&out, &text_of("commitment", &committed))?;
+    let out = out.display();
+    say!("The commitment is in {out}. Hash it with the sheet to make the list.");
     Ok(())
 }
 
 pub fn sign(arguments: &Arguments) -> Result<(), Failure> {
     let set = arguments.set()?;
     let sign = read_sign(arguments)?;
-    let out = arguments.required("record")?;
+    let mut inputs = vec!["f", "g", "a", "y1", "y2", "list", "thresholds", "words"];
+    if arguments.given("sign").is_none() {
+        inputs.push("sign");
+    }
+    let out = arguments.output("record", &inputs)?;
+    let mut vectors = Vectors::default();
     let challenge = Challenge {
-        f: &read_numbers(&arguments.file("f")?)?,
-        g: &read_numbers(&arguments.file("g")?)?,
-        a: &read_numbers(&arguments.file("a")?)?,
-        y1: &read_numbers(&arguments.file("y1")?)?,
-        y2: &read_numbers(&arguments.file("y2")?)?,
+        f: &vectors.read(&arguments.file("f")?, VECTOR)?,
+        g: &vectors.read(&arguments.file("g")?, VECTOR)?,
+        a: &vectors.read(&arguments.file("a")?, VECTOR)?,
+        y1: &vectors.read(&arguments.file("y1")?, VECTOR)?,
+        y2: &vectors.read(&arguments.file("y2")?, VECTOR)?,
         list: &read_numbers(&arguments.file("list")?)?,
         sign,
-        thresholds: &read_numbers(&arguments.file("thresholds")?)?,
+        thresholds: &vectors.read(&arguments.file("thresholds")?, THRESHOLDS)?,
         words: &read_numbers(&arguments.file("words")?)?,
     };
     let (mut z1, mut z2_dagger) = ([0; VECTOR], [0; VECTOR]);
     let response = bursztok::respond(set, challenge, &mut z1, &mut z2_dagger);
-    response.outcome.map_err(|refusal| Failure::Refused {
-        call: "response",
-        refusal,
-        words: Some(response.words),
-    })?;
+    let words = response.words;
+    given_out(response).map_err(|failure| failure.with_counts(&vectors.wrong))?;
     let record = record_of(set, &z1, &z2_dagger, challenge.list)?;
-    write_bytes(Path::new(out), &record)?;
-    println!(
-        "The signature is given out, {} words taken. The record of {} bytes is in {out}.",
-        response.words,
-        record.len()
+    write_bytes(&out, &record)?;
+    say!(
+        "The signature is given out, {words} words taken. The record of {} bytes is in {}.",
+        record.len(),
+        out.display()
     );
     Ok(())
 }
 
+/// The outcome of a response, with its words where it refuses.
+pub fn given_out(response: Response) -> Result<(), Failure> {
+    response.outcome.map_err(|refusal| Failure::Refused {
+        call: "response",
+        refusal,
+        words: Some(response.words),
+        counts: Vec::new(),
+    })
+}
+
 /// The sign bit: --sign 0 or 1, else the one number in sign.txt of --folder.
 fn read_sign(arguments: &Arguments) -> Result<bool, Failure> {
-    let bits: Vec<i8> = match arguments.given("sign") {
-        Some(word) => word.parse().into_iter().collect(),
-        None => read_numbers(&arguments.file("sign")?)?,
+    let Some(word) = arguments.given("sign") else {
+        let path = arguments.file("sign")?;
+        let numbers: Vec<i8> = read_numbers(&path)?;
+        return sign_bit(&numbers, || {
+            let found = shown(&joined(&numbers));
+            let path = path.display();
+            format!("{path}: found '{found}', expected the sign bit, 0 or 1")
+        });
     };
-    match bits[..] {
+    let numbers: Vec<i8> = word.parse().into_iter().collect();
+    sign_bit(&numbers, || {
+        let found = shown(word);
+        format!("sign: --sign is '{found}', expected 0 or 1")
+    })
+}
+
+fn sign_bit(numbers: &[i8], fault: impl FnOnce() -> String) -> Result<bool, Failure> {
+    match numbers {
         [0] => Ok(false),
         [1] => Ok(true),
-        _ => Err(Failure::usage("sign: the sign bit is not 0 or 1")),
+        _ => Err(Failure::Usage(fault())),
     }
 }
 
@@ -92,53 +124,88 @@ pub fn record_of(set: u32, z1: &[i16], z2_dagger: &[i8], list: &[u16]) -> Result
 }
 
 pub fn check(arguments: &Arguments) -> Result<(), Failure> {
-    let a = read_numbers(Path::new(arguments.required("a")?))?;
-    let signature = read_record(&read_bytes(Path::new(arguments.required("record")?))?)?;
+    let mut vectors = Vectors::default();
+    let a = vectors.read(&arguments.file("a")?, VECTOR)?;
+    let record = read_bytes(&arguments.file("record")?)?;
+    let hashed = match arguments.given("hashed") {
+        Some(path) => Some(read_numbers(Path::new(path))?),
+        None => None,
+    };
+    let out = match arguments.given("rebuilt") {
+        Some(_) => Some(arguments.output("rebuilt", &["a", "record", "hashed"])?),
+        None => None,
+    };
+    let signature = read_record(&record)?;
+    let rebuilt = rebuild(&a, &signature).map_err(|failure| failure.with_counts(&vectors.wrong))?;
+    let set = signature.set;
+    say!("The record reads as a signature of set {set}, and the rebuild refuses nothing.");
+    if let Some(hashed) = &hashed {
+        bursztok::compare(set, &signature.list, hashed).named("comparison")?;
+    }
+    if let Some(out) = out {
+        write_bytes(&out, &text_of("rebuilt", &rebuilt))?;
+        let out = out.display();
+        say!("The rebuilt vector is in {out}. Hash it with the sheet to make the list.");
+    }
+    match hashed {
+        Some(_) => say!(
+            "The lists are the same: the signature holds, if --hashed was hashed from the \
+             rebuilt vector and the sheet."
+        ),
+        None => say!("No hashed list was given (--hashed), so nothing is said of the sheet."),
+    }
+    Ok(())
+}
+
+/// The vector that the signer committed to.
+pub fn rebuild(a: &[u16], signature: &Signature) -> Result<Vec<u16>, Failure> {
     let Signature {
         set,
         z1,
         z2_dagger,
         list,
-    } = &signature;
-    let mut rebuilt = [0; VECTOR];
-    bursztok::rebuild(*set, &a, z1, z2_dagger, list, &mut rebuilt).named("rebuild")?;
-    println!("The record reads as a signature of set {set}, and the rebuild refuses nothing.");
-    if let Some(out) = arguments.given("rebuilt") {
-        write_numbers(Path::new(out), "rebuilt", &rebuilt)?;
-        println!("The rebuilt vector is in {out}. Hash it with the sheet to make the list.");
-    }
-    match arguments.given("hashed") {
-        Some(hashed) => {
-            let hashed = read_numbers(Path::new(hashed))?;
-            bursztok::compare(*set, list, &hashed).named("comparison")?;
-            println!("The lists are the same: the signature holds.");
-        }
-        None => println!("No hashed list was given (--hashed), so nothing is said of the sheet."),
-    }
-    Ok(())
+    } = signature;
+    let mut rebuilt = vec![0; VECTOR];
+    bursztok::rebuild(*set, a, z1, z2_dagger, list, &mut rebuilt).named("rebuild")?;
+    Ok(rebuilt)
 }
 
 pub fn write(arguments: &Arguments) -> Result<(), Failure> {
     let set = arguments.set()?;
-    let z1: Vec<i16> = read_numbers(&arguments.file("z1")?)?;
-    let z2_dagger: Vec<i8> = read_numbers(&arguments.file("z2")?)?;
+    let mut vectors = Vectors::default();
+    let z1: Vec<i16> = vectors.read(&arguments.file("z1")?, VECTOR)?;
+    let z2_dagger: Vec<i8> = vectors.read(&arguments.file("z2")?, VECTOR)?;
     let list: Vec<u16> = read_numbers(&arguments.file("list")?)?;
-    let out = arguments.required("record")?;
-    let record = record_of(set, &z1, &z2_dagger, &list)?;
-    write_bytes(Path::new(out), &record)?;
-    println!("The record of {} bytes is in {out}.", record.len());
+    let out = arguments.output("record", &["z1", "z2", "list"])?;
+    let record = record_of(set, &z1, &z2_dagger, &list)
+        .map_err(|failure| failure.with_counts(&vectors.wrong))?;
+    write_bytes(&out, &record)?;
+    say!(
+        "The record of {} bytes is in {}.",
+        record.len(),
+        out.display()
+    );
     Ok(())
 }
 
 pub fn read(arguments: &Arguments) -> Result<(), Failure> {
     let folder = Path::new(arguments.required("folder")?);
-    let signature = read_record(&read_bytes(Path::new(arguments.required("record")?))?)?;
-    std::fs::create_dir_all(folder)
-        .map_err(|error| Failure::usage(format!("{}: {error}", folder.display())))?;
-    write_numbers(&folder.join("z1.txt"), "z1", &signature.z1)?;
-    write_numbers(&folder.join("z2.txt"), "z2 dagger", &signature.z2_dagger)?;
-    write_numbers(&folder.join("list.txt"), "list", &signature.list)?;
-    println!(
+    let path = Path::new(arguments.required("record")?);
+    let signature = read_record(&read_bytes(path)?)?;
+    let files = vec![
+        ("z1.txt", text_of("z1", &signature.z1)),
+        ("z2.txt", text_of("z2 dagger", &signature.z2_dagger)),
+        ("list.txt", text_of("list", &signature.list)),
+    ];
+    if let Some((name, _)) = files
+        .iter()
+        .find(|(name, _)| same_file(path, &folder.join(name)))
+    {
+        let what = format!("read: {name} in --folder is the file of --record");
+        return Err(Failure::usage(what));
+    }
+    write_folder(folder, files)?;
+    say!(
         "A signature of set {}; z1.txt, z2.txt and list.txt are in {}. The list: {}",
         signature.set,
         folder.display(),

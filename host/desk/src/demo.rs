@@ -3,16 +3,16 @@
 //! Key, noise and hash are the second program's; every call that signs or checks is the library's.
 
 use crate::arguments::Arguments;
-use crate::commands::{read_record, record_of, Signature};
+use crate::commands::{self, read_record, rebuild, record_of, Signature};
 use crate::failure::{Failure, Named};
-use crate::files::{joined, read_bytes, write_bytes, write_numbers};
+use crate::files::{joined, make_folder, read_bytes, text_of, write_bytes, write_folder};
 use bursztok::{Challenge, Response, VECTOR};
+use second::console::print_error;
 use second::testing::hash::list_of;
 use second::testing::keys::{published, Key};
 use second::testing::noise::{thresholds, Noise};
 use second::testing::sheet::WORDS;
-use second::Set;
-use std::io::Write;
+use second::{say, Set};
 use std::path::{Path, PathBuf};
 use std::time::{Duration, Instant};
 
@@ -29,33 +29,36 @@ pub fn demo(arguments: &Arguments) -> Result<(), Failure> {
         .ok_or_else(|| Failure::usage(format!("demo: --set is {number}, expected 1 to 4")))?;
     let seed = arguments.number_or("seed", 1)?;
     let sheets = arguments.number_or("sheets", 0)?;
-    let folder = Folder::new(arguments.given("folder"))?;
+    let asked = arguments.given("folder");
+    if let Some(folder) = asked {
+        make_folder(Path::new(folder))?;
+    }
     let mut noise = Noise::new(seed);
 
-    println!("The main job end to end, with set {number} and seed {seed}.\n");
+    say!("The main job end to end, with set {number} and seed {seed}.\n");
     let key = make_key(set, &mut noise)?;
     let signed = sign_aloud(set, &key, &mut noise)?;
-    let record = hand_over(set, &signed, &folder)?;
+    let record = hand_over(set, &signed, asked)?;
     let signature = check_aloud(set, &key, &record, &signed.committed)?;
     show_damage(set, &key, &record, &signature)?;
     if sheets > 0 {
         sign_and_check_many(set, &key, sheets, &mut noise)?;
     }
-    if folder.kept {
-        write_numbers(&folder.path.join("f.txt"), "f", &key.f)?;
-        write_numbers(&folder.path.join("g.txt"), "g", &key.g)?;
-        write_numbers(&folder.path.join("a.txt"), "a", &key.a)?;
-        write_bytes(&folder.path.join("sheet.txt"), SHEET.as_bytes())?;
-        println!(
-            "\nThe key, the sheet and its record are in {}.",
-            folder.path.display()
-        );
+    if let Some(folder) = asked {
+        let files = vec![
+            ("f.txt", text_of("f", &key.f)),
+            ("g.txt", text_of("g", &key.g)),
+            ("a.txt", text_of("a", &key.a)),
+            ("sheet.txt", SHEET.into()),
+        ];
+        write_folder(Path::new(folder), files)?;
+        say!("\nThe key, the sheet and its record are in {folder}.");
     }
-    println!("\nDone: the sheet signed on the ship holds on the shore.");
+    say!("\nDone: the sheet signed on the ship holds on the shore.");
     Ok(())
 }
 
-/// Where the record is handed over: the folder asked for, or one that goes when the run ends.
+/// Where the record is handed over: the folder asked for, or one that goes again.
 struct Folder {
     path: PathBuf,
     kept: bool,
@@ -63,14 +66,19 @@ struct Folder {
 
 impl Folder {
     fn new(asked: Option<&str>) -> Result<Folder, Failure> {
-        let path = match asked {
-            Some(path) => PathBuf::from(path),
-            None => std::env::temp_dir().join(format!("bursztok-demo-{}", std::process::id())),
+        let Some(path) = asked.map(PathBuf::from) else {
+            return Folder::passing();
         };
-        std::fs::create_dir_all(&path)
+        make_folder(&path)?;
+        Ok(Folder { path, kept: true })
+    }
+
+    fn passing() -> Result<Folder, Failure> {
+        let name = format!("bursztok-demo-{}", std::process::id());
+        let path = std::env::temp_dir().join(name);
+        std::fs::create_dir(&path)
             .map_err(|error| Failure::usage(format!("{}: {error}", path.display())))?;
-        let kept = asked.is_some();
-        Ok(Folder { path, kept })
+        Ok(Folder { path, kept: false })
     }
 }
 
@@ -84,11 +92,11 @@ impl Drop for Folder {
 }
 
 fn make_key(set: Set, noise: &mut Noise) -> Result<Key, Failure> {
-    println!("1. A key. The second program's key maker makes one from the seed, for tests only:");
-    println!("   f and g are secret and small, a = (2g + 1) / f modulo 12289 is public.");
+    say!("1. A key. The second program's key maker makes one from the seed, for tests only:");
+    say!("   f and g are secret and small, a = (2g + 1) / f modulo 12289 is public.");
     let key = published(set, noise);
     bursztok::key_test(set.number(), &key.f, &key.g, &key.a).named("key test")?;
-    println!("   The library's key test gives 0: the key holds.\n");
+    say!("   The library's key test gives 0: the key holds.\n");
     Ok(key)
 }
 
@@ -137,67 +145,53 @@ fn given_out(response: Response) -> Result<bool, Failure> {
     match response.outcome {
         Ok(()) => Ok(true),
         Err(refusal) if [8, 10, 11].contains(&refusal.number()) => Ok(false),
-        Err(refusal) => Err(Failure::Refused {
-            call: "response",
-            refusal,
-            words: Some(response.words),
-        }),
+        Err(_) => commands::given_out(response).map(|()| true),
     }
 }
 
 fn sign_aloud(set: Set, key: &Key, noise: &mut Noise) -> Result<Signed, Failure> {
-    println!("2. The ship signs the sheet \"{SHEET}\"");
+    say!("2. The ship signs the sheet \"{SHEET}\"");
     for count in 1.. {
-        println!("   Try {count}: new masks from the noise source, and the commitment to them;");
+        say!("   Try {count}: new masks from the noise source, and the commitment to them;");
         let (signed, response) = try_to_sign(set, key, SHEET, noise)?;
-        println!(
+        say!(
             "   the commitment starts {} ..",
             joined(&signed.committed[..12])
         );
-        println!("   A test hash of commitment and sheet makes the list:");
-        println!("   {}", joined(&signed.list));
+        say!("   A test hash of commitment and sheet makes the list:");
+        say!("   {}", joined(&signed.list));
         if given_out(response)? {
-            println!(
+            say!(
                 "   The response is given out; its draw took {} words.",
                 response.words
             );
-            println!("   z1 starts {} ..\n", joined(&signed.z1[..12]));
+            say!("   z1 starts {} ..\n", joined(&signed.z1[..12]));
             return Ok(signed);
         }
         if let Err(refusal) = response.outcome {
-            println!("   The response refuses with {refusal}. That is part of the scheme.");
+            say!("   The response refuses with {refusal}. That is part of the scheme.");
         }
     }
     unreachable!("tries have no end")
 }
 
-fn hand_over(set: Set, signed: &Signed, folder: &Folder) -> Result<Vec<u8>, Failure> {
+fn hand_over(set: Set, signed: &Signed, asked: Option<&str>) -> Result<Vec<u8>, Failure> {
     let record = record_of(set.number(), &signed.z1, &signed.z2_dagger, &signed.list)?;
+    let folder = Folder::new(asked)?;
     let path = folder.path.join("sheet.record");
     write_bytes(&path, &record)?;
-    println!("3. The ship writes the record, {} bytes:", record.len());
-    println!("   {}", path.display());
-    let handed = read_bytes(Path::new(&path))?;
-    println!("   and hands it to the shore.\n");
+    let handed = read_bytes(&path)?;
+    // Output that cannot be written ends the run, so the folder goes before anything is said.
+    drop(folder);
+    say!("3. The ship writes the record, {} bytes:", record.len());
+    say!("   {}", path.display());
+    say!("   and hands it to the shore.\n");
     Ok(handed)
-}
-
-/// The rebuilt vector of a signature.
-fn rebuilt(key: &Key, signature: &Signature) -> Result<Vec<u16>, Failure> {
-    let mut rebuilt = vec![0; VECTOR];
-    let Signature {
-        set,
-        z1,
-        z2_dagger,
-        list,
-    } = signature;
-    bursztok::rebuild(*set, &key.a, z1, z2_dagger, list, &mut rebuilt).named("rebuild")?;
-    Ok(rebuilt)
 }
 
 /// The shore's check of a signature for a sheet.
 fn check(set: Set, key: &Key, signature: &Signature, sheet: &str) -> Result<Vec<u16>, Failure> {
-    let rebuilt = rebuilt(key, signature)?;
+    let rebuilt = rebuild(&key.a, signature)?;
     let hashed = list_of(set, &rebuilt, sheet.as_bytes());
     bursztok::compare(signature.set, &signature.list, &hashed).named("comparison")?;
     Ok(rebuilt)
@@ -209,14 +203,14 @@ fn check_aloud(
     record: &[u8],
     committed: &[u16],
 ) -> Result<Signature, Failure> {
-    println!("4. The shore holds the public key, the sheet and the record.");
+    say!("4. The shore holds the public key, the sheet and the record.");
     let signature = read_record(record)?;
-    println!(
+    say!(
         "   The reader gives 0: a signature of set {}.",
         signature.set
     );
     let rebuilt = check(set, key, &signature, SHEET)?;
-    println!(
+    say!(
         "   The rebuild gives 0; it starts {} ..",
         joined(&rebuilt[..12])
     );
@@ -224,15 +218,15 @@ fn check_aloud(
         let what = "the rebuilt vector is not the commitment";
         return Err(Failure::Fault(what.to_string()));
     }
-    println!("   These are the 512 numbers that the ship committed to, every one.");
-    println!("   Hashed with the sheet they make the list in the record: the comparison gives 0.");
-    println!("   The sheet holds.\n");
+    say!("   These are the 512 numbers that the ship committed to, every one.");
+    say!("   Hashed with the sheet they make the list in the record: the comparison gives 0.");
+    say!("   The sheet holds.\n");
     Ok(signature)
 }
 
 /// Damage, and the refusal that it must bring.
 fn show_damage(set: Set, key: &Key, record: &[u8], signature: &Signature) -> Result<(), Failure> {
-    println!("5. Damaged on the way, it is refused:");
+    say!("5. Damaged on the way, it is refused:");
     let with = |at: usize, byte: u8| {
         let mut damaged = record.to_vec();
         damaged[at] = byte;
@@ -255,11 +249,11 @@ fn show_damage(set: Set, key: &Key, record: &[u8], signature: &Signature) -> Res
 fn show(damage: &str, expected: u32, outcome: Result<(), Failure>) -> Result<(), Failure> {
     match outcome {
         Err(Failure::Refused { call, refusal, .. }) if refusal.number() == expected => {
-            println!(
+            say!(
                 "   - {damage}: the {call} refuses with number {expected}, place {}:",
                 refusal.place()
             );
-            println!("     {}.", refusal.meaning());
+            say!("     {}.", refusal.meaning());
             Ok(())
         }
         Err(failure) => Err(failure),
@@ -268,7 +262,7 @@ fn show(damage: &str, expected: u32, outcome: Result<(), Failure>) -> Result<(),
 }
 
 fn sign_and_check_many(set: Set, key: &Key, sheets: u64, noise: &mut Noise) -> Result<(), Failure> {
-    println!("\n6. {sheets} sheets more, each signed, written, read and checked.");
+    say!("\n6. {sheets} sheets more, each signed, written, read and checked.");
     let start = Instant::now();
     let mut shown = Instant::now();
     let mut tries = 0u64;
@@ -285,12 +279,11 @@ fn sign_and_check_many(set: Set, key: &Key, sheets: u64, noise: &mut Noise) -> R
         check(set, key, &read_record(&record)?, &sheet)?;
         if shown.elapsed() > Duration::from_millis(500) {
             shown = Instant::now();
-            eprint!("\r   {} of {sheets} ", done + 1);
-            let _ = std::io::stderr().flush();
+            print_error(format_args!("\r   {} of {sheets} ", done + 1));
         }
     }
-    eprint!("\r{:30}\r", "");
-    println!(
+    print_error(format_args!("\r{:30}\r", ""));
+    say!(
         "   All {sheets} hold; {tries} tries, {:.1} seconds.",
         start.elapsed().as_secs_f64()
     );

@@ -12,6 +12,8 @@ pub enum Failure {
         refusal: Refusal,
         /// The words that the draw took, where the call has a draw.
         words: Option<u64>,
+        /// The files of a wrong count, with number 2.
+        counts: Vec<String>,
     },
     /// The library answered what it must not: exit status 1.
     Fault(String),
@@ -22,6 +24,28 @@ pub enum Failure {
 impl Failure {
     pub fn usage(message: impl Into<String>) -> Failure {
         Failure::Usage(message.into())
+    }
+
+    pub fn refused(call: &'static str, refusal: Refusal) -> Failure {
+        Failure::Refused {
+            call,
+            refusal,
+            words: None,
+            counts: Vec::new(),
+        }
+    }
+
+    /// With the files whose counts are wrong, where a wrong length is why a call refused.
+    pub fn with_counts(mut self, wrong: &[String]) -> Failure {
+        if let Failure::Refused {
+            refusal: Refusal::Length,
+            counts,
+            ..
+        } = &mut self
+        {
+            counts.extend_from_slice(wrong);
+        }
+        self
     }
 
     pub fn exit_code(&self) -> ExitCode {
@@ -39,12 +63,13 @@ impl fmt::Display for Failure {
                 call,
                 refusal,
                 words,
+                counts,
             } => {
                 write!(out, "{call} refused with {refusal}")?;
-                match words {
-                    Some(words) => write!(out, " ({words} words taken)"),
-                    None => Ok(()),
+                if let Some(words) = words {
+                    write!(out, " ({words} words taken)")?;
                 }
+                counts.iter().try_for_each(|count| write!(out, "; {count}"))
             }
             Failure::Fault(message) => write!(out, "a fault of the library: {message}"),
             Failure::Usage(message) => out.write_str(message),
@@ -59,10 +84,6 @@ pub trait Named {
 
 impl Named for Result<(), Refusal> {
     fn named(self, call: &'static str) -> Result<(), Failure> {
-        self.map_err(|refusal| Failure::Refused {
-            call,
-            refusal,
-            words: None,
-        })
+        self.map_err(|refusal| Failure::refused(call, refusal))
     }
 }

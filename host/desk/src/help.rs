@@ -14,7 +14,9 @@ bursztok: signs and checks cargo sheets with BLISS-B, sets I to IV
 
 Each has --help. Vectors are text files: whole numbers between white space, '#' starts a comment.
 Records are binary files. Noise and hash are yours: masks, words, thresholds and lists come from
-files. Sets are 1 to 4; 0 stands for set 1.
+files. For trials bursztok-second (host/second) makes them, with test keys; they are for tests only.
+Sets are 1 to 4; 0 stands for set 1. A file is written whole or not at all: first as FILE.part
+beside it, then renamed.
 
 Exit status: 0 done; 1 refused, with number, place and meaning; 2 bad usage or a bad file.";
 
@@ -69,13 +71,15 @@ pub const CHECK: &str = "\
 bursztok check --a FILE --record FILE [--rebuilt FILE] [--hashed FILE]
 
 Reads a record and rebuilds what its signer committed to. The hash is yours: take the rebuilt
-vector, hash it with the sheet, and give the list with --hashed to have it compared.
+vector, hash it with the sheet, and give the list with --hashed to have it compared. The list has
+to be hashed anew from the rebuilt vector and the sheet, never taken from the signer: else equal
+lists say nothing. With a refusal nothing is written.
 Refusals in order: reader 13, 5, 10, 11; rebuild 2, 3; comparison 5, 12.
 
   --a FILE        the public key
   --record FILE   the record
   --rebuilt FILE  where the rebuilt vector goes
-  --hashed FILE   the list that you hashed";
+  --hashed FILE   the list that you hashed from the rebuilt vector and the sheet";
 
 pub const WRITE: &str = "\
 bursztok write --set N (--folder DIR | --z1 FILE --z2 FILE --list FILE) --record FILE

@@ -5,18 +5,22 @@ use crate::commands::read_record;
 use crate::failure::Failure;
 use crate::files::{joined, read_bytes};
 use bursztok::Section;
+use second::say;
 use std::path::Path;
 
 pub fn inspect(arguments: &Arguments) -> Result<(), Failure> {
     let path = arguments.required("record")?;
     let record = read_bytes(Path::new(path))?;
-    println!("{path}: {} bytes", record.len());
+    say!("{path}: {} bytes", record.len());
     print_header(&record);
     print_sections(&record);
     let signature = read_record(&record)?;
-    println!("reader      done, a signature of set {}", signature.set);
+    say!("reader      done, a signature of set {}", signature.set);
     Ok(())
 }
+
+/// The bytes of a header.
+const HEADER: usize = 24;
 
 /// The fields of the header, as far as the bytes go, with no judgement.
 fn print_header(record: &[u8]) {
@@ -31,18 +35,19 @@ fn print_header(record: &[u8]) {
         (14, 16, "count of the list"),
         (16, 18, "offset of the list"),
         (18, 20, "total"),
-        (20, 24, "zero"),
+        (20, HEADER, "zero"),
     ];
     for (start, end, name) in FIELDS {
         let Some(bytes) = record.get(start..end) else {
-            println!("header      ends before byte {start}, {name}");
+            let count = record.len();
+            say!("header      {count} bytes are there, a header has {HEADER}");
             return;
         };
         let content = match start {
             0 => bytes.escape_ascii().to_string(),
             _ => low_first(bytes).to_string(),
         };
-        println!("header {start:>2}   {name:<20} {content}");
+        say!("header {start:>2}   {name:<20} {content}");
     }
 }
 
@@ -76,13 +81,13 @@ where
     T: Copy + Ord + std::fmt::Display,
 {
     if let Err(refusal) = section.outcome {
-        println!("{name:<11} refused with {refusal}");
+        say!("{name:<11} refused with {refusal}");
         return;
     }
     let start = section.part.as_ptr() as usize - record.as_ptr() as usize;
     let (least, most) = (entries.iter().min(), entries.iter().max());
     if let (Some(least), Some(most)) = (least, most) {
-        println!(
+        say!(
             "{name:<11} bytes {start} .. {}, {} entries from {least} to {most}: {}{}",
             start + section.part.len() - 1,
             entries.len(),

@@ -10,14 +10,16 @@ mod inspect;
 
 use arguments::Arguments;
 use failure::Failure;
+use second::console;
+use second::{say, warn};
 use std::process::ExitCode;
 
 fn main() -> ExitCode {
-    let words: Vec<String> = std::env::args().skip(1).collect();
+    let words = console::arguments();
     match run(&words) {
         Ok(()) => ExitCode::SUCCESS,
         Err(failure) => {
-            eprintln!("bursztok: {failure}");
+            warn!("bursztok: {failure}");
             failure.exit_code()
         }
     }
@@ -28,7 +30,7 @@ fn run(words: &[String]) -> Result<(), Failure> {
         return Err(Failure::usage("a subcommand is missing; try --help"));
     };
     if ["--help", "-h", "help"].contains(&name.as_str()) {
-        println!("{}", help::OVERVIEW);
+        say!("{}", help::OVERVIEW);
         return Ok(());
     }
     let subcommand = SUBCOMMANDS
@@ -36,7 +38,7 @@ fn run(words: &[String]) -> Result<(), Failure> {
         .find(|subcommand| subcommand.name == name)
         .ok_or_else(|| Failure::usage(format!("'{name}' is no subcommand; try --help")))?;
     if rest.iter().any(|word| word == "--help" || word == "-h") {
-        println!("{}", subcommand.help);
+        say!("{}", subcommand.help);
         return Ok(());
     }
     let arguments = Arguments::parse(name, rest, subcommand.options)?;

@@ -5,7 +5,10 @@ use second::testing::keys::published;
 use second::testing::noise::Noise;
 use second::testing::sheet::{sign, Signed};
 use second::Set;
+use std::ffi::OsStr;
 use std::fmt::Display;
+use std::fs::File;
+use std::os::unix::ffi::OsStrExt;
 use std::path::{Path, PathBuf};
 use std::process::Command;
 
@@ -163,6 +166,10 @@ fn refusals_end_with_number_place_and_meaning() {
     );
     folder.put("g", &[0; 511]);
     key_test("2", "number 2, place 0: a vector, read or written");
+    key_test("2", "g.txt holds 511 numbers, 512 expected");
+    expect(&sign, 1, "g.txt holds 511 numbers, 512 expected");
+    folder.put("thresholds", &[0; 30]);
+    expect(&sign, 1, "thresholds.txt holds 30 numbers, 31 expected");
     folder.put("g", &[2; 512]);
     key_test("2", "number 7, place 0: key longer than K");
 
@@ -175,7 +182,11 @@ fn refusals_end_with_number_place_and_meaning() {
         "number 13, place 14: header malformed",
     );
     std::fs::write(&record, &bytes[..7]).unwrap();
-    expect(&["inspect", "--record", &record], 1, "number 13, place 7");
+    let inspect = ["inspect", "--record", &record];
+    expect(&inspect, 1, "number 13, place 7");
+    assert!(run(&inspect)
+        .1
+        .contains("7 bytes are there, a header has 24"));
     std::fs::write(&record, b"").unwrap();
     expect(&["inspect", "--record", &record], 1, "number 13, place 0");
 }
@@ -193,6 +204,80 @@ fn bad_files_are_named_with_line_and_expectation() {
     expect(&key_test, 2, "g.txt: not a text file");
     std::fs::remove_file(folder.path("f.txt")).unwrap();
     expect(&key_test, 2, "f.txt: ");
+
+    let record = folder.path("record");
+    let sign = ["sign", "--set", "1", "--folder", &path, "--record", &record];
+    let with_bit = |bit| [&sign[..], &["--sign", bit]].concat();
+    expect(&with_bit("2"), 2, "--sign is '2', expected 0 or 1");
+    folder.put("sign", &[1, 0]);
+    expect(&sign, 2, "sign.txt: found '1 0', expected the sign bit");
+}
+
+#[test]
+fn a_check_reads_all_files_before_it_writes() {
+    let folder = Folder::new("check");
+    files_of(Set::I, &folder);
+    let (path, record) = (folder.path(""), folder.path("record"));
+    let sign = ["sign", "--set", "1", "--folder", &path, "--record", &record];
+    expect(&sign, 0, "given out");
+    let (a, rebuilt) = (folder.path("a.txt"), folder.path("rebuilt.txt"));
+    let (hashed, bad) = (folder.path("list.txt"), folder.path("bad.txt"));
+    std::fs::write(&bad, "seven").unwrap();
+    let check = |hashed: &str, rebuilt: &str, status, said: &str| {
+        let files = ["--a", &a, "--record", &record, "--hashed", hashed];
+        expect(
+            &[&["check"], &files[..], &["--rebuilt", rebuilt]].concat(),
+            status,
+            said,
+        );
+    };
+    check(&bad, &rebuilt, 2, "bad.txt, line 1: found 'seven'");
+    assert!(!Path::new(&rebuilt).exists());
+    for input in [&a, &record, &hashed] {
+        check(&hashed, input, 2, "--rebuilt names the file of");
+    }
+    let holds = "the signature holds, if --hashed was hashed from the rebuilt vector and the sheet";
+    check(&hashed, &rebuilt, 0, holds);
+    assert_eq!(numbers(&rebuilt).len(), 512);
+}
+
+#[test]
+fn a_failed_write_leaves_what_was_there() {
+    let folder = Folder::new("write");
+    files_of(Set::I, &folder);
+    let (path, record) = (folder.path(""), folder.path("record"));
+    let sign = ["sign", "--set", "1", "--folder", &path, "--record", &record];
+    expect(&sign, 0, "given out");
+    let out = folder.path("read");
+    let read = ["read", "--record", &record, "--folder", &out];
+    std::fs::create_dir_all(folder.path("read/list.txt")).unwrap();
+    std::fs::write(folder.path("read/z1.txt"), "old").unwrap();
+    expect(&read, 2, "list.txt: ");
+    assert_eq!(std::fs::read(folder.path("read/z1.txt")).unwrap(), b"old");
+    assert_eq!(std::fs::read_dir(&out).unwrap().count(), 2);
+}
+
+#[test]
+fn output_that_cannot_be_written_ends_quietly() {
+    let full = File::options().write(true).open("/dev/full").unwrap();
+    let output = Command::new(env!("CARGO_BIN_EXE_bursztok"))
+        .arg("--help")
+        .stdout(full)
+        .output()
+        .unwrap();
+    assert_eq!(output.status.code(), Some(2));
+    assert!(output.stderr.is_empty());
+}
+
+#[test]
+fn a_word_that_is_not_utf8_is_told() {
+    let output = Command::new(env!("CARGO_BIN_EXE_bursztok"))
+        .arg(OsStr::from_bytes(b"key\xff"))
+        .output()
+        .unwrap();
+    assert_eq!(output.status.code(), Some(2));
+    let said = String::from_utf8(output.stderr).unwrap();
+    assert!(said.contains("is not text in UTF-8"), "{said}");
 }
 
 #[test]
@@ -213,6 +298,7 @@ fn bad_usage_is_told() {
         "'--key' is no option",
     );
     expect(&["demo", "--set", "7"], 2, "expected 1 to 4");
+    expect(&["demo", "--folder", ""], 2, "--folder wants a value");
     let subcommands = [
         "demo", "key-test", "commit", "sign", "check", "write", "read", "inspect",
     ];

@@ -1,11 +1,13 @@
 //! Makes files for trying the desk's tool: test keys, a try of signing that is given out, and
 //! the test hash; and the test key of the C example.
 
+use second::console::arguments;
+use second::files::{lines_of, shown, write_files};
 use second::testing::hash::list_of;
 use second::testing::keys::published;
 use second::testing::noise::{thresholds, Noise};
 use second::testing::sheet::sign;
-use second::Set;
+use second::{say, warn, Set};
 use std::fmt::Display;
 use std::path::{Path, PathBuf};
 use std::process::ExitCode;
@@ -27,11 +29,11 @@ bursztok-second: test files for the desk's tool, made by the second program
 SET is 1 to 4. Keys and hash are for tests only. Exit status: 0 done, 2 bad usage or bad file.";
 
 fn main() -> ExitCode {
-    let words: Vec<String> = std::env::args().skip(1).collect();
+    let words = arguments();
     let words: Vec<&str> = words.iter().map(String::as_str).collect();
     let outcome = match words[..] {
-        ["--help"] => {
-            println!("{USAGE}");
+        ["--help" | "-h"] => {
+            say!("{USAGE}");
             Ok(())
         }
         ["try", set, seed, message, folder] => make_try(set, seed, message, folder),
@@ -42,13 +44,16 @@ fn main() -> ExitCode {
     match outcome {
         Ok(()) => ExitCode::SUCCESS,
         Err(message) => {
-            eprintln!("{message}");
+            warn!("{message}");
             ExitCode::from(2)
         }
     }
 }
 
 fn make_try(set: &str, seed: &str, message: &str, folder: &str) -> Result<(), String> {
+    if folder.is_empty() {
+        return Err("the folder has no name".to_string());
+    }
     let set = set_named(set)?;
     let mut noise = Noise::new(seed_named(seed)?);
     let message = bytes_of(message)?;
@@ -57,65 +62,68 @@ fn make_try(set: &str, seed: &str, message: &str, folder: &str) -> Result<(), St
     let (last_try, signature) = (signed.last_try, signed.signature);
     let folder = PathBuf::from(folder);
     std::fs::create_dir_all(&folder).map_err(|error| format!("{}: {error}", folder.display()))?;
-    write_numbers(&folder, "f", &key.f)?;
-    write_numbers(&folder, "g", &key.g)?;
-    write_numbers(&folder, "a", &key.a)?;
-    write_numbers(&folder, "y1", &last_try.y1)?;
-    write_numbers(&folder, "y2", &last_try.y2)?;
-    write_numbers(&folder, "list", &last_try.list)?;
-    write_numbers(&folder, "sign", &[u8::from(last_try.sign)])?;
-    write_numbers(&folder, "thresholds", &last_try.thresholds)?;
-    write_numbers(&folder, "words", &last_try.words)?;
-    write_numbers(&folder, "commitment", &signed.committed)?;
-    write_numbers(&folder, "z1", &signature.z1)?;
-    write_numbers(&folder, "z2", &signature.z2_dagger)
+    write_files(&[
+        numbers_file(&folder, "f", &key.f),
+        numbers_file(&folder, "g", &key.g),
+        numbers_file(&folder, "a", &key.a),
+        numbers_file(&folder, "y1", &last_try.y1),
+        numbers_file(&folder, "y2", &last_try.y2),
+        numbers_file(&folder, "list", &last_try.list),
+        numbers_file(&folder, "sign", &[u8::from(last_try.sign)]),
+        numbers_file(&folder, "thresholds", &last_try.thresholds),
+        numbers_file(&folder, "words", &last_try.words),
+        numbers_file(&folder, "commitment", &signed.committed),
+        numbers_file(&folder, "z1", &signature.z1),
+        numbers_file(&folder, "z2", &signature.z2_dagger),
+    ])
 }
 
 fn print_header(set: &str, seed: &str) -> Result<(), String> {
     let set = set_named(set)?;
     let key = published(set, &mut Noise::new(seed_named(seed)?));
-    println!(
+    say!(
         "/* A test key of set {}, made by the second program from seed {seed}, and the set's",
         set.number()
     );
-    println!(" * thresholds. For tests only: everybody knows it. */");
-    println!("#ifndef TEST_KEY_H\n#define TEST_KEY_H\n\n#include <stdint.h>\n");
-    println!("#define TEST_KEY_SET {}\n", set.number());
+    say!(" * thresholds. For tests only: everybody knows it. */");
+    say!("#ifndef TEST_KEY_H\n#define TEST_KEY_H\n\n#include <stdint.h>\n");
+    say!("#define TEST_KEY_SET {}\n", set.number());
     print_array("int8_t", "test_key_f", "", &key.f);
     print_array("int8_t", "test_key_g", "", &key.g);
     print_array("uint16_t", "test_key_a", "", &key.a);
     print_array("uint64_t", "test_thresholds", "u", &thresholds(set));
-    println!("#endif");
+    say!("#endif");
     Ok(())
 }
 
 fn print_array<T: Display>(kind: &str, name: &str, suffix: &str, numbers: &[T]) {
-    println!("static const {kind} {name}[{}] = {{", numbers.len());
+    say!("static const {kind} {name}[{}] = {{", numbers.len());
     let width = if suffix.is_empty() { 16 } else { 4 };
     for line in numbers.chunks(width) {
         let words: Vec<String> = line
             .iter()
             .map(|number| format!("{number}{suffix},"))
             .collect();
-        println!("    {}", words.join(" "));
+        say!("    {}", words.join(" "));
     }
-    println!("}};\n");
+    say!("}};\n");
 }
 
 fn print_list(set: &str, vector: &str, message: &str) -> Result<(), String> {
     let set = set_named(set)?;
     let text = std::fs::read_to_string(vector).map_err(|error| format!("{vector}: {error}"))?;
-    let rounded: Vec<u16> = text
-        .lines()
-        .filter(|line| !line.starts_with('#'))
-        .flat_map(str::split_whitespace)
+    let rounded: Vec<u16> = lines_of(&text)
+        .iter()
+        .flat_map(|(_, line)| line.split_whitespace())
         .map(|word| {
-            word.parse()
-                .map_err(|_| format!("{vector}: '{word}' is not a whole number from 0 to 65535"))
+            word.parse().map_err(|_| {
+                let word = shown(word);
+                format!("{vector}: '{word}' is not a whole number from 0 to 65535")
+            })
         })
         .collect::<Result<_, _>>()?;
     let list = list_of(set, &rounded, &bytes_of(message)?);
-    println!("{}", joined(&list));
+    say!("{}", joined(&list));
     Ok(())
 }
 
@@ -135,12 +143,12 @@ fn bytes_of(path: &str) -> Result<Vec<u8>, String> {
     std::fs::read(path).map_err(|error| format!("{path}: {error}"))
 }
 
-/// Writes a text file of numbers, sixteen to a line, under a line that names it.
-fn write_numbers<T: Display>(folder: &Path, name: &str, numbers: &[T]) -> Result<(), String> {
+/// A text file of numbers, sixteen to a line, under a line that names it.
+fn numbers_file<T: Display>(folder: &Path, name: &str, numbers: &[T]) -> (PathBuf, Vec<u8>) {
     let lines: Vec<String> = numbers.chunks(16).map(joined).collect();
     let text = format!("# {name}\n{}\n", lines.join("\n"));
     let path = folder.join(name).with_extension("txt");
-    std::fs::write(&path, text).map_err(|error| format!("{}: {error}", path.display()))
+    (path, text.into_bytes())
 }
 
 fn joined<T: Display>(numbers: &[T]) -> String {

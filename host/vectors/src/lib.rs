@@ -81,4 +81,4 @@ pub mod slots;
 pub const LETTERS: &[u8; 8] = b"BLVECT01";
 
 pub use cases::vectors;
-pub use replay::replay;
+pub use replay::{replay, Fault};

@@ -1,6 +1,11 @@
 //! Writes the file of vectors, or replays one. Its format stands in the library's comment.
 
+use second::console::arguments;
+use second::files::write_file;
+use second::{say, warn};
+use std::path::Path;
 use std::process::ExitCode;
+use vectors::Fault;
 
 const USAGE: &str = "\
 bursztok-vectors FILE [SEED]      writes the file of vectors that SEED makes (default 1)
@@ -10,11 +15,11 @@ The file's format is in the comment of host/vectors/src/lib.rs.
 Exit status: 0 done, 1 the replay found a difference, 2 bad usage or a bad file.";
 
 fn main() -> ExitCode {
-    let words: Vec<String> = std::env::args().skip(1).collect();
+    let words = arguments();
     let words: Vec<&str> = words.iter().map(String::as_str).collect();
     match words[..] {
-        ["--help"] => {
-            println!("{USAGE}");
+        ["--help" | "-h"] => {
+            say!("{USAGE}");
             ExitCode::SUCCESS
         }
         ["--replay", path] => replay(path),
@@ -29,12 +34,12 @@ fn main() -> ExitCode {
 
 fn write(path: &str, seed: u64) -> ExitCode {
     let file = vectors::vectors(seed);
-    match std::fs::write(path, &file) {
+    match write_file(Path::new(path), &file) {
         Ok(()) => {
-            println!("{path}: {} bytes, seed {seed}", file.len());
+            say!("{path}: {} bytes, seed {seed}", file.len());
             ExitCode::SUCCESS
         }
-        Err(error) => bad(&format!("{path}: {error}")),
+        Err(message) => bad(&message),
     }
 }
 
@@ -46,19 +51,20 @@ fn replay(path: &str) -> ExitCode {
     match vectors::replay(&file) {
         Ok(counts) => {
             for ((call, number), count) in &counts {
-                println!("call {call:>2}, number {number:>2}: {count}");
+                say!("call {call:>2}, number {number:>2}: {count}");
             }
-            println!("{} passed, 0 failed", counts.values().sum::<u32>());
+            say!("{} passed, 0 failed", counts.values().sum::<u32>());
             ExitCode::SUCCESS
         }
-        Err(fault) => {
-            println!("{path}: {fault}");
+        Err(Fault::Differs(what)) => {
+            say!("{path}: {what}");
             ExitCode::from(1)
         }
+        Err(Fault::Malformed(what)) => bad(&format!("{path}: {what}")),
     }
 }
 
 fn bad(message: &str) -> ExitCode {
-    eprintln!("{message}");
+    warn!("{message}");
     ExitCode::from(2)
 }

@@ -27,6 +27,11 @@ impl Slot {
         self.length
     }
 
+    /// The elements that there is room for.
+    pub fn room(&self) -> usize {
+        self.bytes.len() / self.width
+    }
+
     /// The bytes of the entries within the length.
     pub fn content(&self) -> &[u8] {
         &self.bytes[..self.width * self.length]
@@ -149,6 +154,11 @@ impl Slots {
 
     pub fn get_mut(&mut self, number: usize) -> &mut Slot {
         &mut self.0[number - 1]
+    }
+
+    /// The slot of a number that may be any.
+    pub fn find(&mut self, number: usize) -> Option<&mut Slot> {
+        self.0.get_mut(number.checked_sub(1)?)
     }
 
     /// The second program's answer, and the output arrays that the call has.

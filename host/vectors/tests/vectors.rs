@@ -1,7 +1,8 @@
 //! The file is small, says the same at each making, replays, and notices damage.
 
 use second::testing::calls::Call;
-use vectors::{replay, vectors};
+use std::process::Command;
+use vectors::{replay, vectors, Fault};
 
 #[test]
 fn the_file_replays_and_reaches_every_number() {
@@ -37,11 +38,74 @@ fn damage_is_noticed() {
         damaged[at] ^= 1;
         replay(&damaged).unwrap_err()
     };
+    let differs = |at: usize, said: &str| {
+        let fault = damaged(at);
+        assert!(
+            matches!(&fault, Fault::Differs(what) if what.contains(said)),
+            "{fault}"
+        );
+    };
     // An entry of a wanted commitment, and the wanted number of the first commitment.
-    assert!(damaged(find(&file, [1, 13]) + 8).contains("Commitment: slot 13"));
-    assert!(damaged(find(&file, [3, 2]) + 8 + 4).contains("Commitment"));
-    assert!(damaged(0).contains("BLVECT01"));
+    differs(find(&file, [1, 13]) + 8, "Commitment: slot 13");
+    differs(find(&file, [3, 2]) + 8 + 4, "Commitment");
+    assert!(damaged(0).to_string().contains("BLVECT01"));
     assert!(replay(&file[..file.len() - 1]).is_err());
     let longer = [&file[..], &[0]].concat();
     assert!(replay(&longer).is_err());
+}
+
+/// A file of one entry with these bytes.
+fn with_entry(entry: &[u8]) -> Vec<u8> {
+    [b"BLVECT01\x01\0\0\0\0\0\0\0", entry].concat()
+}
+
+#[test]
+fn malformed_entries_are_named() {
+    let malformed = |entry: &[u8], said: &str| {
+        let fault = replay(&with_entry(entry)).unwrap_err();
+        assert_eq!(fault, Fault::Malformed(format!("entry 0: {said}")));
+    };
+    malformed(&[1, 0, 1, 0, 0, 0, 0, 0], "no slot 0");
+    malformed(&[2, 18, 1, 0, 0, 0, 0, 0], "no slot 18");
+    malformed(&[1, 1, 2, 0, 0, 0, 0, 0], "slot 1 has another width than 2");
+    malformed(
+        &[1, 1, 1, 0, 9, 2, 0, 0],
+        "slot 1 has room for 520, not 521",
+    );
+    malformed(
+        &[2, 1, 1, 0, 8, 2, 1, 0, 7],
+        "slot 1 has room for 520, not 521",
+    );
+    malformed(&[1, 1, 1, 0, 0, 0, 9, 0], "the file ends too soon");
+    malformed(&[3, 11, 1, 0, 0, 0, 0, 0], "no call 11");
+    malformed(&[3, 1, 1, 0, 0, 0, 0, 0], "a call of 0 bytes");
+    malformed(&[4, 1, 1, 0, 0, 0, 0, 0], "no entry of kind 4");
+    let zero = "byte 3 of its head is not zero";
+    malformed(&[1, 1, 1, 7, 0, 0, 0, 0], zero);
+}
+
+#[test]
+fn a_replay_ends_with_the_status_of_its_fault() {
+    let name = format!("bursztok-{}.vectors", std::process::id());
+    let path = std::env::temp_dir().join(name);
+    let status_of = |file: &[u8]| {
+        std::fs::write(&path, file).unwrap();
+        let program = Command::new(env!("CARGO_BIN_EXE_bursztok-vectors"))
+            .arg("--replay")
+            .arg(&path)
+            .output();
+        program.unwrap().status.code()
+    };
+    // A key test of nothing, which gives 2, and one that is said to give 0.
+    let mut call = vec![3, 1, 1, 0, 0, 0, 26, 0, 1, 0, 0, 0, 2];
+    call.resize(8 + 25, 0);
+    call.push(1);
+    let mut file = with_entry(&call);
+    file[12] = 1;
+    assert_eq!(status_of(&file), Some(0));
+    file[16 + 8 + 4] = 0;
+    assert_eq!(status_of(&file), Some(1));
+    assert_eq!(status_of(&file[..20]), Some(2));
+    assert_eq!(status_of(b""), Some(2));
+    std::fs::remove_file(&path).unwrap();
 }
