@@ -194,10 +194,14 @@ fn count_instructions(sets: &[Set], symbol: Option<&str>) -> ExitCode {
         "instructions a call, inside {}",
         symbol.unwrap_or("the exported call")
     );
+    let mut entered = false;
     for set in sets {
         for (_, name, exported) in MEASURED {
             match instructions(*set, name, symbol.unwrap_or(exported)) {
-                Ok(count) => say!("  set {}  {name:<11} {count:>12}", set.number()),
+                Ok(count) => {
+                    entered |= count > 0;
+                    say!("  set {}  {name:<11} {count:>12}", set.number());
+                }
                 Err(message) => {
                     warn!("bench: {message}");
                     return ExitCode::from(1);
@@ -205,10 +209,14 @@ fn count_instructions(sets: &[Set], symbol: Option<&str>) -> ExitCode {
             }
         }
     }
+    if !entered {
+        warn!("bench: no call enters the symbol, so nothing was counted");
+        return ExitCode::from(1);
+    }
     ExitCode::SUCCESS
 }
 
-/// Instructions a call; a symbol that is never entered is a fault.
+/// Instructions a call, 0 where it never enters the symbol.
 fn instructions(set: Set, name: &str, symbol: &str) -> Result<u64, String> {
     const TIMES: u64 = 4;
     let this = std::env::current_exe().map_err(|error| error.to_string())?;
@@ -227,9 +235,6 @@ fn instructions(set: Set, name: &str, symbol: &str) -> Result<u64, String> {
         .next_back()
         .and_then(|count| count.trim().parse::<u64>().ok());
     match collected {
-        Some(0) if output.status.success() => Err(format!(
-            "no instruction counted inside {symbol}: {name} never enters it"
-        )),
         Some(count) if output.status.success() => Ok(count / TIMES),
         _ => Err(format!("valgrind failed:\n{said}")),
     }
