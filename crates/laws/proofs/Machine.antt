@@ -1,18 +1,18 @@
 -- Signed machine numbers: a local of width w holds bits n and reads as z. Each operation has what it asks (`-ok`) and what it leaves (`-is`), once for
 -- every width. Assumes nothing.
 use mathlib.Core.Path.{_≡_, refl, _∙_, ap}
-use mathlib.Core.Bool.{Bool}
+use mathlib.Core.Bool.{Bool, true, false}
 use Prim.Native.Nat.{ℕ, suc, _+_, _*_, _-_, _^_, _<_, _≤_}
 use native.Mathlib.Omega.{arith}
 use lib.Dec.{T, leb}
-use lib.IntN.{ℤ, pos, negsuc, natAbs, _+ℤ_, _-ℤ_, _*ℤ_}
+use lib.IntN.{ℤ, pos, negsuc, negℤ, natAbs, _+ℤ_, _-ℤ_, _*ℤ_, +ℤ-idl}
 use lib.Signed.{mag, nonNeg, ltZ, leZ, pos-natAbs}
 use mir.Syntax.{Width}
 use mir.Val.{SFits, Fits, bits, hbits, toZ, ofZ}
 use mir.Facts.{toZ-ofZ, sfits-widen}
 use mir.ValLaws.{toZ-pos, toZ-neg, half-full}
-use Rattle.laws.proofs.Bounds.{abs-add, abs-sub, abs-mul, mag-abs, abs-mag}
-use Rattle.laws.proofs.Linear.{above, under, size, size-le, sum, nonneg, above-mag}
+use Rattle.laws.proofs.Bounds.{abs-neg, abs-add, abs-sub, abs-mul, mag-abs, abs-mag}
+use Rattle.laws.proofs.Linear.{above, under, size, size-le, sum, difference, nonneg, above-mag, lt-yes, lt-no}
 
 pub record Reads (w : Width) (n : ℕ) (z : ℤ) : Type 0 where
   pub back : toZ w n ≡ z
@@ -136,6 +136,35 @@ module _ {w : Width} {n m : ℕ} {x y : ℤ} (p : Reads w n x) (q : Reads w m y)
 
   pub le-is : leZ (toZ w n) (toZ w m) ≡ b → leZ x y ≡ b
   le-is e = rw (← (p .back), ← (q .back)) e
+
+-- ---- |x|: a number, or 0 less it where it is below 0, cast to the unsigned type
+module _ {w : Width} {n : ℕ} {x : ℤ} (p : Reads w n x) (room : natAbs x < 2 ^ hbits w) where
+  zero-is : Reads w 0 (pos 0)
+  zero-is = positive w 0 (omega arith)
+
+  abbrev turned : ℕ
+  turned = ofZ w (toZ w 0 -ℤ toZ w n)
+
+  turned-reads : Reads w turned (pos 0 -ℤ x)
+  turned-reads = sub-is zero-is p (omega arith)
+
+  pub size-turns : SFits w (toZ w 0 -ℤ toZ w n)
+  size-turns = sub-ok zero-is p (omega arith)
+
+  pub size-below : natAbs (toZ w turned) ≡ natAbs x
+  size-below = unsigned-is turned-reads ∙ ap natAbs (+ℤ-idl (negℤ x)) ∙ abs-neg x
+
+  pub size-below-cast : ltZ (toZ w n) (toZ w 0) ≡ true → T (nonNeg (toZ w turned)) × Fits w (natAbs (toZ w turned))
+  size-below-cast e =
+      let negative = lt-yes x (pos 0) (lt-is p zero-is e) in
+      unsigned-ok turned-reads w (nonneg (pos 0 -ℤ x) (omega (arith, negative, difference (pos 0) x)))
+      (half-full w (omega (arith, unsigned-is turned-reads, size-below)))
+
+  pub size-from : natAbs (toZ w n) ≡ natAbs x
+  size-from = unsigned-is p
+
+  pub size-from-cast : ltZ (toZ w n) (toZ w 0) ≡ false → T (nonNeg (toZ w n)) × Fits w (natAbs (toZ w n))
+  size-from-cast e = unsigned-ok p w (nonneg x (omega (arith, lt-no x (pos 0) (lt-is p zero-is e)))) (half-full w room)
 
 -- ---- two's complement
 pub bits-above : (w : Width) (z : ℤ) → under z ≤ above z → ofZ w z ≡ above z

@@ -1,12 +1,11 @@
 use mathlib.Core.Path.{_≡_, ap, ap₂, _∙_}
 use Prim.Native.Nat.{ℕ, _+_, _*_, _<_}
 use native.Mathlib.Omega.{arith}
-use lib.IntN.{ℤ, pos, negℤ, natAbs, _+ℤ_, _-ℤ_, +ℤ-idl}
+use lib.IntN.{ℤ, natAbs, _+ℤ_}
 use mir.Syntax.{w32}
 use mir.Val.{toZ, ofZ}
-use Rattle.laws.proofs.Bounds.{abs-add, abs-neg}
-use Rattle.laws.proofs.Linear.{above, under, difference, nonneg, lt-yes, lt-no}
-use Rattle.laws.proofs.Machine.{Reads, element, held, add-ok, add-is, sub-ok, sub-is, lt-is, unsigned-ok, unsigned-is}
+use Rattle.laws.proofs.Bounds.{abs-add}
+use Rattle.laws.proofs.Machine.{size-turns, size-below, size-below-cast, size-from-cast, Reads, element, add-ok, add-is, unsigned-is}
 use Rattle.vectors.specs.Vectors.{inner}
 use Rattle.vectors.proofs.Sums.{inner-le-sizes}
 use Rattle.signing.proofs.second_trial.Statement.{statement}
@@ -50,41 +49,23 @@ module _ (c : tie.After-inner-product2) where
 add-inner : tie.Need-add-inner
 add-inner c = add-ok (x-is c) (y-is c) (omega (arith, room c))
 
--- below 0
-module _ (c : tie.Then1) where
-  abbrev d : ℤ
-  d = x (c .before) +ℤ y (c .before)
-
-  negative : above d + under (pos 0) < above (pos 0) + under d
-  negative = lt-yes d (pos 0) (lt-is (whole (c .before)) (held w32 0) (c .if1 .taken))
-
-  turned : Reads w32 (ofZ w32 (pos 0 -ℤ toZ w32 (ofZ w32 (toZ w32 (ofZ w32 (x (c .before))) +ℤ toZ w32 (ofZ w32 (y (c .before))))))) (pos 0 -ℤ d)
-  turned = sub-is (held w32 0) (whole (c .before)) (omega (arith, small (c .before)))
-
-  turned-size : natAbs (pos 0 -ℤ d) ≡ natAbs d
-  turned-size = ap natAbs (+ℤ-idl (negℤ d)) ∙ abs-neg d
-
 sub-result : tie.Need-sub-result
-sub-result c = sub-ok (held w32 0) (whole (c .before)) (omega (arith, small (c .before)))
+sub-result c = size-turns (whole (c .before)) (omega (arith, small (c .before)))
 
 cast-result : tie.Need-cast-result
-cast-result c =
-    unsigned-ok (turned c) w32 (nonneg (pos 0 -ℤ d c) (omega (arith, difference (pos 0) (d c), negative c))) (omega (arith, turned-size c, small (c .before)))
+cast-result c = size-below-cast (whole (c .before)) (omega (arith, small (c .before))) (c .if1 .taken)
 
 mul-result : tie.Need-mul-result
-mul-result c = omega (arith, unsigned-is (turned c), turned-size c, small (c .before))
+mul-result c = omega (arith, size-below (whole (c .before)) (omega (arith, small (c .before))), small (c .before))
 
--- from 0 on
 cast-result-2 : tie.Need-cast-result-2
-cast-result-2 c =
-    let p = c .before in
-    unsigned-ok (whole p) w32 (nonneg (x p +ℤ y p) (omega (arith, lt-no (x p +ℤ y p) (pos 0) (lt-is (whole p) (held w32 0) (c .if1 .left))))) (omega (arith, small p))
+cast-result-2 c = size-from-cast (whole (c .before)) (omega (arith, small (c .before))) (c .if1 .left)
 
 mul-result-2 : tie.Need-mul-result-2
 mul-result-2 c = omega (arith, unsigned-is (whole (c .before)), small (c .before))
 
 returns : tie.Need-returns
-returns c = ap (λ (n : ℕ). 2 * n) (unsigned-is (turned c) ∙ turned-size c ∙ ap natAbs (is-inner (c .before)))
+returns c = ap (λ (n : ℕ). 2 * n) (size-below (whole (c .before)) (omega (arith, small (c .before))) ∙ ap natAbs (is-inner (c .before)))
 
 returns-2 : tie.Need-returns-2
 returns-2 c = ap (λ (n : ℕ). 2 * n) (unsigned-is (whole (c .before)) ∙ ap natAbs (is-inner (c .before)))
