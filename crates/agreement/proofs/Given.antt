@@ -12,7 +12,7 @@ use Rattle.laws.proofs.Chain.{passed}
 use Rattle.sets.specs.declared.Set.{Set}
 use Rattle.sets.specs.declared.Asked.{Asked}
 use Rattle.sets.specs.declared.Asked.the-variants.{Known, Unknown}
-use Rattle.sets.specs.Numbers.{dimension, listLimit, recordLimit, kappaOf, totalOf, numberOf, askedOf}
+use Rattle.sets.specs.Numbers.{dimension, listLimit, recordLimit, kappaOf, totalOf, setNumberOf, askedOf}
 use Rattle.sets.proofs.Alike.{asked-back, kappa-within, total-within}
 use Rattle.answers.specs.declared.Outcome.{Outcome}
 use Rattle.answers.specs.declared.Outcome.the-variants.{Done}
@@ -24,7 +24,7 @@ use Rattle.limits.specs.LengthRule.{lengthRule}
 use Rattle.signing.specs.Response.{responded, response}
 use Rattle.checking.specs.Checking.{rebuild}
 use Rattle.records.specs.Signatures.{signature, recordOf, refusalOf}
-use Rattle.records.specs.Writer.{written, writingFor, writingOf}
+use Rattle.records.specs.Writer.{writingFor, writingOf}
 use Rattle.records.specs.Reader.{found, readingOf}
 use Rattle.records.proofs.RoundTrip.{written-reads}
 use Rattle.promises.proofs.Signatures.{given-out}
@@ -35,13 +35,13 @@ use Rattle.agreement.specs.Accepted.{Rebuilds, Readable, Writable, Accep
 -- the writer, where nothing is to be refused
 writes-done : (set : ℕ) (s : Set) (z1 z2 : List ℤ) (l out : List ℕ) → askedOf set ≡ Known s → length z1 ≡ dimension → length z2 ≡ dimension
     → properList s l ≡ true → lengthRule s z1 z2 ≡ Done → totalOf s ≤ length out
-    → writingOf set z1 z2 l out ≡ written Done (recordOf (signature s z1 z2 l) ++ drop (totalOf s) out)
+    → writingOf set z1 z2 l out ≡ filled Done (recordOf (signature s z1 z2 l) ++ drop (totalOf s) out)
 unfolding writingOf writingFor refusalOf
 writes-done set s z1 z2 l out known l1 l2 proper rule room = rw (known, eq-eqb _ _ l1, eq-eqb _ _ l2, proper, rule, le-leb _ _ room)
 
 -- the set's own number stands for it
 by-number : (set : ℕ) (s : Set) (a : List ℕ) (z1 z2 : List ℤ) (l old : List ℕ) → askedOf set ≡ Known s
-    → rebuild (numberOf s) a z1 z2 l old ≡ rebuild set a z1 z2 l old
+    → rebuild (setNumberOf s) a z1 z2 l old ≡ rebuild set a z1 z2 l old
 unfolding rebuild
 by-number set s a z1 z2 l old known = rw (known, asked-back s)
 
@@ -98,7 +98,7 @@ pub record-long : (out : List ℕ) (total : ℕ) (s : Set) → total ≡ totalOf
 record-long out total s e f = sym (length-take-le total out (total-room (length out) total s e f))
 
 module _ (set : ℕ) (s : Set) (a : List ℕ) (z1 z2 : List ℤ) (l rounded : List ℕ) (w : Writable set s a z1 z2 l rounded) where
-  readable : (out after : List ℕ) → writingOf set z1 z2 l out ≡ written Done after → Readable s a (take (totalOf s) after) rounded
+  readable : (out after : List ℕ) → writingOf set z1 z2 l out ≡ filled Done after → Readable s a (take (totalOf s) after) rounded
   readable out after e =
       let back = written-reads set z1 z2 l out after e in
       let asked = back .asked in
@@ -110,12 +110,12 @@ module _ (set : ℕ) (s : Set) (a : List ℕ) (z1 z2 : List ℤ) (l rounded : Li
         l = l;
         long = w .long;
         reads = λ b1 b2 b3 l1 l2 l3.
-            subst (λ (t : Set). readingOf (take (totalOf t) after) b1 b2 b3 ≡ found Done (numberOf t) z1 z2 (l ++ drop (kappaOf t) b3)) own (back .reads b1 b2 b3 l1 l2 l3);
+            subst (λ (t : Set). readingOf (take (totalOf t) after) b1 b2 b3 ≡ found Done (setNumberOf t) z1 z2 (l ++ drop (kappaOf t) b3)) own (back .reads b1 b2 b3 l1 l2 l3);
         rebuilds = w .rebuilds;
       }
 
   -- the writer of the code, which is done, and the part of its output that is the record
-  module _ (o : Outcome) (out after : List ℕ) (room : totalOf s ≤ length out) (e : written o after ≡ writingOf set z1 z2 l out) where
+  module _ (o : Outcome) (out after : List ℕ) (room : totalOf s ≤ length out) (e : filled o after ≡ writingOf set z1 z2 l out) where
     pub wrote : o ≡ Done
     wrote = cc (w .writes out room .1)
 
@@ -131,7 +131,7 @@ list-long l kappa s e f = sym (length-take-le kappa l (omega (arith, kappa-withi
 module _ (s : Set) (a rec rounded : List ℕ) (w : Readable s a rec rounded) where
   module _ (o : Outcome) (n : ℕ) (x y b1 b2 : List ℤ) (k b3 : List ℕ) (l1 : length b1 ≡ dimension) (l2 : length b2 ≡ dimension) (l3 : length b3 ≡ listLimit)
       (e : found o n x y k ≡ readingOf rec b1 b2 b3) where
-    pub was-read : (o ≡ Done) × (n ≡ numberOf s)
+    pub was-read : (o ≡ Done) × (n ≡ setNumberOf s)
     was-read = (cc (w .reads b1 b2 b3 l1 l2 l3), cc (w .reads b1 b2 b3 l1 l2 l3))
 
     pub rebuilds-read : (kappa : ℕ) → kappa ≡ kappaOf s → Rebuilds n a x y (take kappa k) rounded

@@ -10,7 +10,7 @@ use Rattle.sets.specs.declared.Set.{Set}
 use Rattle.sets.specs.declared.Asked.{Asked}
 use Rattle.sets.specs.declared.Asked.the-variants.{Known, Unknown}
 use Rattle.answers.specs.declared.Outcome.{Outcome}
-use Rattle.answers.specs.declared.Outcome.the-variants.{Done, UnknownSet, WrongLength, CoefficientOutside, MaskOutside, ImproperList, RelationBroken, KeyTooLong, Rejected, WordMissing, EntryBeyond, SumAbove, ListsDiffer, HeaderMalformed, OutputShort}
+use Rattle.answers.specs.declared.Outcome.the-variants.{Done, UnknownSet, WrongLength, CoefficientOutside, MaskOutside, ImproperList, RelationBroken, KeyTooLong, DrawRejected, WordMissing, EntryBeyond, SumAbove, ListsDiffer, HeaderMalformed, OutputShort}
 use Rattle.answers.specs.Outcomes.{isDone, unless, forSet, filled}
 
 module _ {ℓ} {A : Type ℓ} where
@@ -40,7 +40,7 @@ done-is MaskOutside e = absurd (Chain.differ e)
 done-is ImproperList e = absurd (Chain.differ e)
 done-is RelationBroken e = absurd (Chain.differ e)
 done-is KeyTooLong e = absurd (Chain.differ e)
-done-is Rejected e = absurd (Chain.differ e)
+done-is DrawRejected e = absurd (Chain.differ e)
 done-is WordMissing e = absurd (Chain.differ e)
 done-is (EntryBeyond place) e = absurd (Chain.differ e)
 done-is SumAbove e = absurd (Chain.differ e)

@@ -8,7 +8,7 @@ ghost use Rattle.record_forms.specs.Sections.{z1Section, z2Section, listSection
 ghost use Rattle.records.specs.Writer.{writingOf};
 ghost use Rattle.records.specs.Reader.{readingOf};
 ghost use lib.ListN.{length};
-ghost use Rattle.bursztok.specs.Exports.{answerOf, left, leftBy, leftByWriter, responseWith, replied, repliedBy, readingWith, stored, storedBy, partAt, located, locatedBy};
+ghost use Rattle.bursztok.specs.Exports.{answerOf, left, leftBy, responseWith, replied, repliedBy, readingWith, stored, storedBy, partAt, located, locatedBy};
 use answers::Outcome;
 use record_forms::LIST_OFFSET;
 use record_forms::Z1_OFFSET;
@@ -114,7 +114,7 @@ pub extern "C" fn bursztok_write(
     list: &[u16],
     out: &mut [u8],
 ) -> Answer
-    ensures { λ r. ⌜ left r (now (out .exit)) ≡ leftByWriter (writingOf set (now (z1 .entry)) (now (z2 .entry)) (now (list .entry)) (now (out .entry))) ⌝ }
+    ensures { λ r. ⌜ left r (now (out .exit)) ≡ leftBy (writingOf set (now (z1 .entry)) (now (z2 .entry)) (now (list .entry)) (now (out .entry))) ⌝ }
 {
     answered(records::write(set, z1, z2, list, out))
 }

@@ -13,7 +13,8 @@ use Rattle.answers.specs.Outcomes.{unless, forSet, Filled, filled}
 use Rattle.rounding.specs.Rounding.{restored}
 use Rattle.vectors.specs.Places.{properList, listed}
 use Rattle.limits.specs.LengthRule.{lengthRule}
-use Rattle.keys.specs.Key.{isResidue, sized}
+use Rattle.vectors.specs.Vectors.{sized}
+use Rattle.keys.specs.Key.{isResidue}
 use Rattle.commitment.specs.Commitment.{sums}
 
 -- 12289 at each listed place

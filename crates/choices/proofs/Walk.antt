@@ -14,7 +14,8 @@ use Rattle.sets.specs.Numbers.{dimension, listLimit}
 use Rattle.vectors.specs.Vectors.{within, squares}
 use Rattle.vectors.proofs.Ranges.{within-at}
 use Rattle.vectors.proofs.Sums.{squares-le}
-use Rattle.choices.specs.Choices.{Pair, pair, column, squaresPair, chosen, chooseFrom, choices, zeros}
+use Rattle.vectors.specs.Pairs.{Pair, pair, squaresPair}
+use Rattle.choices.specs.Choices.{column, chosen, chooseFrom, choices, zeros}
 use Rattle.choices.proofs.Pairs.{Sized}
 use Rattle.choices.proofs.Bound.{Short, short-zeros, short-chosen}
 

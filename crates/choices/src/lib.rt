@@ -7,7 +7,8 @@ ghost use Rattle.laws.specs.Lists.{every, zipWith};
 ghost use Rattle.sets.specs.Numbers.{dimension, listLimit};
 ghost use Rattle.vectors.specs.Vectors.{within, squares};
 ghost use Rattle.vectors.specs.Places.{isPlace};
-ghost use Rattle.choices.specs.Choices.{pair, signed, chosen, choices, zeros};
+ghost use Rattle.vectors.specs.Pairs.{pair};
+ghost use Rattle.choices.specs.Choices.{addedIf, chosen, choices, zeros};
 use sets::Set;
 
 // v1 and v2 come as all zeros and leave as the sign choices. With entries of at most 5 and at most 39 places |v|² is at most 39 times 25,600, which
@@ -46,7 +47,7 @@ fn step(v1: &mut [i16], v2: &mut [i16], c1: &[i16], c2: &[i16])
 // v + c or v - c, in v's place.
 fn join(v: &mut [i16], c: &[i16], add: bool)
     requires { ⌜ (length (now v) ≡ dimension) × (length (now c) ≡ dimension) × (squares (now v) + squares (now c) ≤ 2 ^ 26) ⌝ }
-    ensures { λ _. ⌜ now (v .exit) ≡ zipWith (signed add) (now (v .entry)) (now (c .entry)) ⌝ }
+    ensures { λ _. ⌜ now (v .exit) ≡ zipWith (addedIf add) (now (v .entry)) (now (c .entry)) ⌝ }
 {
     if add {
         vectors::add_to(v, c);

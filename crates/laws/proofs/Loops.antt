@@ -9,7 +9,7 @@ use native.Mathlib.Numerals.{add-one}
 use native.Mathlib.Omega.{arith}
 use borrow.Author.Tests.{eq-eqb, ne-eqb, eqb-true}
 use lib.Dec.{eqb}
-use lib.ListN.{length, take, drop, getD, set, length-set, drop-of-length-le}
+use lib.ListN.{length, take, drop, getD, set as update, length-set, drop-of-length-le}
 use lib.Seq.{take-all, drop-cons}
 use Rattle.laws.specs.Lists.{every, same}
 use Rattle.laws.proofs.Chain.{differ, and-left, and-right}
@@ -25,7 +25,7 @@ module _ {A : Type 0} where
   kept-at (x ∷ l) [] (suc i) d h e = absurd (suc-ne-zero (length l) (sym e))
   kept-at (x ∷ l) (y ∷ w) (suc i) d h e = kept-at l w i d (le-of-suc-le-suc h) (suc-inj e)
 
-  set-at : (l w : List A) (i : ℕ) (d : A) → i < length l → length w ≡ length l → set (swept l w i) i (getD w i d) ≡ swept l w (suc i)
+  set-at : (l w : List A) (i : ℕ) (d : A) → i < length l → length w ≡ length l → update (swept l w i) i (getD w i d) ≡ swept l w (suc i)
   set-at [] w i d h e = absurd (not-suc-le-zero h)
   set-at (x ∷ l) [] i d h e = absurd (suc-ne-zero (length l) (sym e))
   set-at (x ∷ l) (y ∷ w) zero d h e = refl
@@ -44,11 +44,11 @@ module _ {A : Type 0} where
       pub next-is : (d : A) → i < length l → getD now i d ≡ getD l i d
       next-is d h = ap (λ (r : List A). getD r i d) (so .is) ∙ kept-at l w i d h same
 
-      pub more : (d x : A) → i < length l → x ≡ getD w i d → Rewritten l w (i + 1) (set now i x)
+      pub more : (d x : A) → i < length l → x ≡ getD w i d → Rewritten l w (i + 1) (update now i x)
       more d x h e =
           record {
             long = length-set now i x ∙ so .long;
-            is = rw add-one (ap (λ (y : A). set now i y) e ∙ ap (λ (r : List A). set r i (getD w i d)) (so .is) ∙ set-at l w i d h same);
+            is = rw add-one (ap (λ (y : A). update now i y) e ∙ ap (λ (r : List A). update r i (getD w i d)) (so .is) ∙ set-at l w i d h same);
           }
 
       pub finish : length l ≤ i → now ≡ w

@@ -23,11 +23,13 @@ use Rattle.rounding.specs.Rounding.{upper, dagger, restored}
 use Rattle.vectors.specs.Places.{properList, listed}
 use Rattle.vectors.proofs.Rising.{proper-count, proper-rises, proper-places}
 use Rattle.limits.specs.LengthRule.{lengthRule}
-use Rattle.keys.specs.Key.{isResidue, sized, second}
+use Rattle.vectors.specs.Vectors.{sized}
+use Rattle.keys.specs.Key.{isResidue, second}
 use Rattle.keys.proofs.Ranges.{a-residues}
 use Rattle.commitment.specs.Commitment.{areMasks, sums, committed, commitment}
 use Rattle.commitment.proofs.Sums.{length-sums}
-use Rattle.choices.specs.Choices.{Pair, pair, signed, choices}
+use Rattle.vectors.specs.Pairs.{Pair, pair}
+use Rattle.choices.specs.Choices.{addedIf, choices}
 use Rattle.choices.proofs.Bound.{choices-sized, choices-bound}
 use Rattle.choices.proofs.Pairs.{Sized}
 use Rattle.choices.proofs.Parity.{choices-odd, choices-even}
@@ -69,11 +71,11 @@ module _ (s : Set) (f g : List ℤ) (a : List ℕ) (y1 y2 : List ℤ) (l : List 
 
   pub z-first : length (z .first) ≡ dimension
   unfolding masked
-  z-first = length-zipWith (signed (not bit)) y1 (v .first) (before .long-y1 ∙ sym (v-512 .first)) ∙ before .long-y1
+  z-first = length-zipWith (addedIf (not bit)) y1 (v .first) (before .long-y1 ∙ sym (v-512 .first)) ∙ before .long-y1
 
   z-second : length (z .second) ≡ dimension
   unfolding masked
-  z-second = length-zipWith (signed (not bit)) y2 (v .second) (before .long-y2 ∙ sym (v-512 .second)) ∙ before .long-y2
+  z-second = length-zipWith (addedIf (not bit)) y2 (v .second) (before .long-y2 ∙ sym (v-512 .second)) ∙ before .long-y2
 
   u-512 : length u ≡ dimension
   u-512 = length-sums a y1 y2 (before .long-y2)

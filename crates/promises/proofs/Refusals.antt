@@ -14,21 +14,21 @@ use Rattle.sets.specs.declared.Set.{Set}
 use Rattle.sets.specs.declared.Asked.{Asked}
 use Rattle.sets.specs.declared.Asked.the-variants.{Known, Unknown}
 use Rattle.answers.specs.declared.Outcome.{Outcome}
-use Rattle.answers.specs.declared.Outcome.the-variants.{Done, Rejected, WordMissing, EntryBeyond, SumAbove}
+use Rattle.answers.specs.declared.Outcome.the-variants.{Done, DrawRejected, WordMissing, EntryBeyond, SumAbove}
 use Rattle.answers.specs.Outcomes.{numberOf, forSet, Filled, filled}
 use Rattle.answers.proofs.Calls.{done-is}
 use Rattle.limits.specs.LengthRule.{entries, lengthRule}
 use Rattle.keys.specs.Key.{properKey}
 use Rattle.commitment.specs.Commitment.{commitment}
 use Rattle.draw.specs.declared.Ending.{Ending}
-use Rattle.draw.specs.declared.Ending.the-variants.{Accepted, Rejected as Turned, OutOfWords}
+use Rattle.draw.specs.declared.Ending.the-variants.{Accepted, Rejected, OutOfWords}
 use Rattle.draw.specs.Draw.{afterWalk}
 use Rattle.signing.specs.Response.{Responded, responded, drawn, signedWith, tested, responseFor, response}
 use Rattle.checking.specs.Checking.{rebuild}
 use Rattle.record_forms.specs.declared.Header.{Header}
 use Rattle.record_forms.specs.declared.Header.the-variants.{States, Malformed}
 use Rattle.record_forms.specs.Headers.{opened}
-use Rattle.records.specs.Writer.{Written, written, writingFor, writingOf}
+use Rattle.records.specs.Writer.{writingFor, writingOf}
 use Rattle.records.specs.Reader.{Found, found, readingFor, readingOf}
 use Rattle.promises.specs.Demands.{OnlyDone, CommitmentKeeps, RebuildKeeps, ResponseKeeps, WriterKeeps, ReaderKeeps, ResponseCounts}
 
@@ -51,7 +51,7 @@ module _ {A : Type 0} {P : A → Type 0} where
   walk-either : (ending : Ending) (accepted rejected : ℕ → A) (short : A) → ((n : ℕ) → Holds P (accepted n)) → ((n : ℕ) → Holds P (rejected n)) → Holds P short
       → Holds P (afterWalk ending accepted rejected short)
   walk-either (Accepted n) accepted rejected short p q r = p n
-  walk-either (Turned n) accepted rejected short p q r = q n
+  walk-either (Rejected n) accepted rejected short p q r = q n
   walk-either OutOfWords accepted rejected short p q r = r
 
   header-either : (header : Header) (malformed : ℕ → A) (states : Set → A) → ((place : ℕ) → Holds P (malformed place)) → ((s : Set) → Holds P (states s))
@@ -96,11 +96,11 @@ pub rebuild-keeps : RebuildKeeps
 rebuild-keeps set a z1 z2 l out o after e = subst (Keeps filledAnswer filledLeft out) e (rebuild-holds set a z1 z2 l out .is)
 
 -- the writer's output
-abbrev writtenAnswer : Written → Outcome
-writtenAnswer (written o after) = o
+abbrev writtenAnswer : Filled → Outcome
+writtenAnswer (filled o after) = o
 
-abbrev writtenLeft : Written → List ℕ
-writtenLeft (written o after) = after
+abbrev writtenLeft : Filled → List ℕ
+writtenLeft (filled o after) = after
 
 writer-holds : (set : ℕ) (z1 z2 : List ℤ) (l out : List ℕ) → Holds (Keeps writtenAnswer writtenLeft out) (writingOf set z1 z2 l out)
 unfolding writingOf writingFor
@@ -180,7 +180,7 @@ module _ (lent : ℕ) (z1 z2 : List ℤ) where
   counts-short : Holds (Counts lent) (responded WordMissing lent z1 z2)
   counts-short = record { is = (λ m n. absurd (omega arith), λ e. refl) }
 
-  counts-rejected : (count : ℕ) → Holds (Counts lent) (responded Rejected count z1 z2)
+  counts-rejected : (count : ℕ) → Holds (Counts lent) (responded DrawRejected count z1 z2)
   counts-rejected count = record { is = (λ m n. absurd (omega arith), λ e. absurd (omega arith)) }
 
   counts-late : (count : ℕ) (o : Outcome) → Holds Late o → Holds (Counts lent) (responded o count z1 z2)

@@ -11,14 +11,16 @@ use Rattle.sets.specs.declared.Set.{Set}
 use Rattle.sets.specs.declared.Asked.the-variants.{Known}
 use Rattle.sets.specs.Numbers.{dimension, places, askedOf}
 use Rattle.answers.specs.declared.Outcome.{Outcome}
-use Rattle.answers.specs.declared.Outcome.the-variants.{Done, UnknownSet, WrongLength, CoefficientOutside, MaskOutside, ImproperList, Rejected, WordMissing}
+use Rattle.answers.specs.declared.Outcome.the-variants.{Done, UnknownSet, WrongLength, CoefficientOutside, MaskOutside, ImproperList, DrawRejected, WordMissing}
 use Rattle.answers.specs.Outcomes.{isDone}
 use Rattle.vectors.specs.Places.{properList}
 use Rattle.limits.specs.LengthRule.{lengthRule}
-use Rattle.keys.specs.Key.{inRange, second, properKey, sized}
+use Rattle.vectors.specs.Vectors.{sized}
+use Rattle.keys.specs.Key.{inRange, second, properKey}
 use Rattle.keys.proofs.Ranges.{sized-is}
 use Rattle.commitment.specs.Commitment.{areMasks, sums}
-use Rattle.choices.specs.Choices.{Pair, pair, choices}
+use Rattle.vectors.specs.Pairs.{Pair, pair}
+use Rattle.choices.specs.Choices.{choices}
 use Rattle.draw.specs.Draw.{walkOf}
 use Rattle.signing.specs.Response.{Responded, responded, masked, firstTrial, secondTrial, daggers, given, drawn, signedWith, tested, responseFor, response}
 use Rattle.promises.proofs.Passed.{must-passed, unless-passed, set-known, walk-accepted}
@@ -58,7 +60,7 @@ module _ (s : Set) (s1 s2 : List ℤ) (a : List ℕ) (y1 y2 : List ℤ) (l : Lis
         (ap (λ r. isDone (outcomeOf r)) h) in
         let walk =
         walk-accepted outcomeOf (walkOf (firstTrial s v) (secondTrial answered v) words thresholds)
-        (λ n. given s n (answered .first) dagger2 out1 out2) (λ n. responded Rejected n out1 out2) (responded WordMissing (length words) out1 out2)
+        (λ n. given s n (answered .first) dagger2 out1 out2) (λ n. responded DrawRejected n out1 out2) (responded WordMissing (length words) out1 out2)
         (λ n. refl) refl (key .1) in
         let rule =
         unless-passed outcomeOf (lengthRule s (answered .first) dagger2) (λ o. responded o (walk .0) out1 out2)

@@ -21,7 +21,8 @@ use Rattle.keys.specs.Key.{second}
 use Rattle.keys.proofs.Ranges.{f-small, g-small}
 use Rattle.keys.proofs.Second.{second-within}
 use Rattle.commitment.specs.Commitment.{areMasks}
-use Rattle.choices.specs.Choices.{Pair, pair, signed, choices}
+use Rattle.vectors.specs.Pairs.{Pair, pair}
+use Rattle.choices.specs.Choices.{addedIf, choices}
 use Rattle.choices.proofs.Pairs.{Sized, Within}
 use Rattle.signing.specs.Response.{masked}
 use Rattle.signing.proofs.Numbers.{first-mask, second-mask, sizes-z, trial-fits}
@@ -50,10 +51,10 @@ module _ (s : Set) (f g : List ℤ) (a l : List ℕ) (key : Tested s f g a) (pro
 
   module _ (y1 y2 : List ℤ) (bit : Bool) (l1 : length y1 ≡ dimension) (l2 : length y2 ≡ dimension) (masks : areMasks y1 y2 ≡ true) where
     abbrev z1 : List ℤ
-    z1 = zipWith (signed (not bit)) y1 (v .first)
+    z1 = zipWith (addedIf (not bit)) y1 (v .first)
 
     abbrev z2 : List ℤ
-    z2 = zipWith (signed (not bit)) y2 (v .second)
+    z2 = zipWith (addedIf (not bit)) y2 (v .second)
 
     fits : sizes z1 (v .first) + sizes z2 (v .second) < 2 ^ 30
     fits =

@@ -13,12 +13,13 @@ use Rattle.answers.specs.declared.Outcome.{Outcome}
 use Rattle.answers.specs.declared.Outcome.the-variants.{Done}
 use Rattle.answers.specs.Outcomes.{numberOf, filled}
 use Rattle.vectors.specs.Places.{properList}
-use Rattle.keys.specs.Key.{second, keyLength, keyTest}
+use Rattle.keys.specs.Key.{second, keyTest}
 use Rattle.commitment.specs.Commitment.{areMasks, commitment}
-use Rattle.choices.specs.Choices.{pair, squaresPair, choices}
+use Rattle.vectors.specs.Pairs.{pair, squaresPair}
+use Rattle.choices.specs.Choices.{choices}
 use Rattle.signing.specs.Response.{responded, masked, firstTrial, secondTrial, drawn, response}
 use Rattle.checking.specs.Checking.{rebuild, comparison}
-use Rattle.records.specs.Writer.{written, writingOf}
+use Rattle.records.specs.Writer.{writingOf}
 use Rattle.records.specs.Reader.{found, readingOf}
 
 -- ---- demand 1: each refusal "leaves the output buffers with the contents they came with"
@@ -55,7 +56,7 @@ ResponseKeeps =
 abbrev pub WriterKeeps : Type 0
 WriterKeeps =
     (set : ℕ) (z1 z2 : List ℤ) (l out : List ℕ) (o : Outcome) (after : List ℕ)
-    → writingOf set z1 z2 l out ≡ written o after
+    → writingOf set z1 z2 l out ≡ filled o after
     → (numberOf o ≡ 0 → ⊥)
     → after ≡ out
 
@@ -85,7 +86,7 @@ ResponseLength =
     → askedOf set ≡ Known s
     → keyTest set f g a ≡ Done
     → properList s l ≡ true
-    → squaresPair (choices (pair f (second g)) l) ≤ kappaOf s * keyLength f (second g)
+    → squaresPair (choices (pair f (second g)) l) ≤ kappaOf s * squaresPair (pair f (second g))
 
 -- "And if a signature is given out, the checker, holding only the public key, the signature and the same list, refuses nothing and rebuilds exactly the
 -- rounded vector that the signer committed to", for either sign bit, any thresholds and any random words. The key, the masks and the list are what the
@@ -136,7 +137,7 @@ Demand3 =
     → properList s l ≡ true
     → length y1 ≡ dimension → length y2 ≡ dimension → length thresholds ≡ places → length out1 ≡ dimension → length out2 ≡ dimension
     → length before ≡ dimension → length old ≡ dimension
-    → (squaresPair (choices (pair f (second g)) l) ≤ kappaOf s * keyLength f (second g))
+    → (squaresPair (choices (pair f (second g)) l) ≤ kappaOf s * squaresPair (pair f (second g)))
     × ((count : ℕ) (z1 z2 : List ℤ)
     → response set f g a y1 y2 l bit thresholds words out1 out2 ≡ responded Done count z1 z2
     → (comparison set l l ≡ Done)

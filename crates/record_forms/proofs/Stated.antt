@@ -8,19 +8,21 @@ use borrow.Author.Tests.{eq-eqb, eqb-true, le-leb, leb-true}
 use lib.Dec.{eqb, leb, lit<, lit≤}
 use lib.ListN.{length, take, drop, getD}
 use lib.Seq.{take-suc, take-take, getD-take}
+use Rattle.laws.specs.Lists.{same}
 use Rattle.laws.specs.Refusals.{must}
 use Rattle.laws.proofs.Chain.{through}
+use Rattle.laws.proofs.Loops.{is-same}
 use Rattle.sets.specs.declared.Set.{Set}
 use Rattle.sets.specs.declared.Asked.{Asked}
 use Rattle.sets.specs.declared.Asked.the-variants.{Known, Unknown}
-use Rattle.sets.specs.Numbers.{totalOf, numberOf, namedOf}
+use Rattle.sets.specs.Numbers.{totalOf, setNumberOf, namedOf}
 use Rattle.sets.proofs.Alike.{each, named-back, named-is}
 use Rattle.answers.specs.Outcomes.{forSet}
 use Rattle.record_forms.specs.declared.Header.{Header}
 use Rattle.record_forms.specs.declared.Header.the-variants.{States, Malformed}
 use Rattle.byte_codes.specs.Bytes.{bytesOf}
-use Rattle.record_forms.specs.Headers.{letters, headerOf, part, alike, agree, setFields, fieldsAfter, headerIn}
-use Rattle.record_forms.proofs.Agreement.{alike-same, agree-further}
+use Rattle.record_forms.specs.Headers.{letters, headerOf, part, agree, setFields, fieldsAfter, headerIn}
+use Rattle.record_forms.proofs.Agreement.{agree-further}
 
 pub record Stated (s : Set) (rec : List ℕ) : Type 0 where
   pub total : length rec ≡ totalOf s
@@ -39,11 +41,11 @@ opens : (s : Set) → take 4 (headerOf s) ≡ letters
 unfolding headerOf
 opens s = refl
 
-number-at-four : (s : Set) → getD (headerOf s) 4 0 ≡ numberOf s
+number-at-four : (s : Set) → getD (headerOf s) 4 0 ≡ setNumberOf s
 unfolding headerOf bytesOf
 number-at-four = each _ refl refl refl refl
 
-number-byte : (s : Set) → take 5 (headerOf s) ≡ letters ++ (numberOf s ∷ [])
+number-byte : (s : Set) → take 5 (headerOf s) ≡ letters ++ (setNumberOf s ∷ [])
 unfolding headerOf bytesOf
 number-byte = each _ refl refl refl refl
 
@@ -117,12 +119,12 @@ module _ {s : Set} {rec : List ℕ} (so : Stated s rec) where
   agrees-there : (from to : ℕ) → from ≤ to → to ≤ 24 → agree from to rec (headerOf s) ≡ true
   agrees-there from to h k =
       let within : from + (to - from) ≤ 24 = omega arith in
-      ap (λ (l : List ℕ). alike l (part from to (headerOf s))) (sym (part-take from (to - from) 24 rec within) ∙ ap (part from to) (so .front))
-      ∙ alike-same (part from to (headerOf s))
+      ap (λ (l : List ℕ). same l (part from to (headerOf s))) (sym (part-take from (to - from) 24 rec within) ∙ ap (part from to) (so .front))
+      ∙ is-same (part from to (headerOf s))
 
   letters-there : agree 0 4 rec letters ≡ true
   letters-there =
-      ap (λ (l : List ℕ). alike l letters) (sym (take-take 4 24 rec (lit≤ tt)) ∙ ap (take 4) (so .front) ∙ opens s) ∙ alike-same letters
+      ap (λ (l : List ℕ). same l letters) (sym (take-take 4 24 rec (lit≤ tt)) ∙ ap (take 4) (so .front) ∙ opens s) ∙ is-same letters
 
   named-there : namedOf (getD rec 4 0) ≡ Known s
   named-there =

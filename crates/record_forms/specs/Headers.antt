@@ -4,9 +4,10 @@ use mathlib.Core.List.{List, [], _∷_, _++_}
 use Prim.Native.Nat.{ℕ, _-_}
 use lib.Dec.{eqb, leb}
 use lib.ListN.{length, take, drop, getD}
+use Rattle.laws.specs.Lists.{same}
 use Rattle.laws.specs.Refusals.{must}
 use Rattle.sets.specs.declared.Set.{Set}
-use Rattle.sets.specs.Numbers.{dimension, kappaOf, totalOf, numberOf, namedOf}
+use Rattle.sets.specs.Numbers.{dimension, kappaOf, totalOf, setNumberOf, namedOf}
 use Rattle.answers.specs.Outcomes.{forSet}
 use Rattle.record_forms.specs.declared.Header.{Header}
 use Rattle.record_forms.specs.declared.Header.the-variants.{States, Malformed}
@@ -32,7 +33,7 @@ listOffset = 1560
 unfoldable pub headerOf : Set → List ℕ
 headerOf s =
     letters
-    ++ (bytesOf 1 (numberOf s) ++ bytesOf 1 0)
+    ++ (bytesOf 1 (setNumberOf s) ++ bytesOf 1 0)
     ++ (bytesOf 2 dimension ++ bytesOf 2 z1Offset)
     ++ (bytesOf 2 dimension ++ bytesOf 2 z2Offset)
     ++ (bytesOf 2 (kappaOf s) ++ bytesOf 2 listOffset)
@@ -45,16 +46,9 @@ headerOf s =
 abbrev pub part : ℕ → ℕ → List ℕ → List ℕ
 part from to bytes = take (to - from) (drop from bytes)
 
--- whether two byte strings are the same
-unfoldable pub alike : List ℕ → List ℕ → Bool
-alike [] [] = true
-alike [] (y ∷ ys) = false
-alike (x ∷ xs) [] = false
-alike (x ∷ xs) (y ∷ ys) = eqb x y && alike xs ys
-
 -- whether two byte strings agree from one place up to another
 abbrev pub agree : ℕ → ℕ → List ℕ → List ℕ → Bool
-agree from to a b = alike (part from to a) (part from to b)
+agree from to a b = same (part from to a) (part from to b)
 
 -- the fields whose content goes by the set: the list's count and offset, the total, which is also the slice's length, and the zeros after it
 unfoldable pub setFields : Set → List ℕ → List ℕ → Header

@@ -20,7 +20,7 @@ use Rattle.vectors.specs.Places.{properList}
 use Rattle.vectors.proofs.Rising.{proper-place}
 use Rattle.limits.specs.LengthRule.{lengthRule}
 use Rattle.limits.proofs.Rule.{first-within, second-within}
-use Rattle.byte_codes.specs.Bytes.{unpacked, signed}
+use Rattle.byte_codes.specs.Bytes.{unpacked, fromComplement}
 use Rattle.record_forms.specs.Headers.{z1Offset, z2Offset, listOffset, headerOf, part}
 use Rattle.byte_codes.proofs.Sections.{unpacked-packed, packed-unpacked, take-small}
 use Rattle.byte_codes.proofs.WholeNumbers.{numbers-back, bytes-back}
@@ -87,8 +87,8 @@ module _ (g : Signature) (so : Sized g) where
     pub signature-back : signatureIn (g .set) (recordOf g) ≡ g
     signature-back =
         parts
-        (ap (λ (l : List ℕ). map (signed 16) (unpacked 2 dimension l)) z1-part ∙ numbers-back 16 2 refl (g .z1) dimension (so .z1-long) z1-small)
-        (ap (λ (l : List ℕ). map (signed 8) (unpacked 1 dimension l)) z2-part ∙ numbers-back 8 1 refl (g .z2) dimension (so .z2-long) z2-small)
+        (ap (λ (l : List ℕ). map (fromComplement 16) (unpacked 2 dimension l)) z1-part ∙ numbers-back 16 2 refl (g .z1) dimension (so .z1-long) z1-small)
+        (ap (λ (l : List ℕ). map (fromComplement 8) (unpacked 1 dimension l)) z2-part ∙ numbers-back 8 1 refl (g .z2) dimension (so .z2-long) z2-small)
         (ap (unpacked 2 (kappaOf (g .set))) list-part ∙ ap (λ (n : ℕ). unpacked 2 n (listBytes g)) (sym (so .list-long)) ∙ unpacked-packed 2 (g .list) list-small)
       where
         parts : {z1 z2 : List ℤ} {list : List ℕ} → z1 ≡ g .z1 → z2 ≡ g .z2 → list ≡ g .list → signature (g .set) z1 z2 list ≡ g

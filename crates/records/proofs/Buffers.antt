@@ -13,7 +13,7 @@ use Rattle.sets.specs.Numbers.{kappaOf, totalOf, listLimit}
 use Rattle.sets.proofs.Alike.{kappa-within}
 use Rattle.answers.specs.declared.Outcome.{Outcome}
 use Rattle.answers.specs.declared.Outcome.the-variants.{ImproperList}
-use Rattle.answers.specs.Outcomes.{isDone}
+use Rattle.answers.specs.Outcomes.{isDone, filled}
 use Rattle.answers.proofs.Calls.{done-test}
 use Rattle.vectors.specs.Places.{properList}
 use Rattle.vectors.proofs.Rising.{proper-count}
@@ -25,7 +25,6 @@ use Rattle.record_forms.specs.Headers.{listOffset, part, headerIn}
 use Rattle.byte_codes.proofs.Sections.{length-unpacked}
 use Rattle.record_forms.proofs.Stated.{stated}
 use Rattle.records.specs.Signatures.{Signature, signature, signatureIn, refusalOf}
-use Rattle.records.specs.Writer.{written}
 use Rattle.records.specs.Reader.{found}
 
 -- ---- lengths
@@ -81,7 +80,7 @@ pub entries-read : {A : Type 0} (f : ℕ → A) (width count count′ : ℕ) (by
 entries-read f width count count′ bytes now e h = cc
 
 -- ---- answers
-pub written-at : (o : Outcome) (out out′ : List ℕ) → out ≡ out′ → written o out ≡ written o out′
+pub written-at : (o : Outcome) (out out′ : List ℕ) → out ≡ out′ → filled o out ≡ filled o out′
 written-at o out out′ e = cc
 
 pub refused-at : (o o′ : Outcome) (set : ℕ) (z1 z2 : List ℤ) (list : List ℕ) → (o ≡ o′) × (set ≡ 0) → found o set z1 z2 list ≡ found o′ 0 z1 z2 list

@@ -15,20 +15,20 @@ use Rattle.laws.proofs.Entries.{every-anywhere}
 use Rattle.sets.specs.declared.Set.{Set}
 use Rattle.sets.specs.declared.Asked.{Asked}
 use Rattle.sets.specs.declared.Asked.the-variants.{Known, Unknown}
-use Rattle.sets.specs.Numbers.{dimension, listLimit, kappaOf, totalOf, numberOf, askedOf}
+use Rattle.sets.specs.Numbers.{dimension, listLimit, kappaOf, totalOf, setNumberOf, askedOf}
 use Rattle.sets.proofs.Alike.{asked-back}
 use Rattle.answers.specs.declared.Outcome.{Outcome}
 use Rattle.answers.specs.declared.Outcome.the-variants.{Done, UnknownSet, WrongLength, HeaderMalformed, OutputShort}
-use Rattle.answers.specs.Outcomes.{isDone, unless, forSet}
+use Rattle.answers.specs.Outcomes.{isDone, unless, forSet, Filled, filled}
 use Rattle.vectors.proofs.Rising.{proper-count}
 use Rattle.record_forms.specs.declared.Header.{Header}
 use Rattle.record_forms.specs.declared.Header.the-variants.{States, Malformed}
-use Rattle.byte_codes.specs.Bytes.{isByte, unpacked, signed}
+use Rattle.byte_codes.specs.Bytes.{isByte, unpacked, fromComplement}
 use Rattle.record_forms.specs.Headers.{z1Offset, z2Offset, listOffset, part, headerIn, opened}
 use Rattle.byte_codes.proofs.Sections.{length-unpacked}
 use Rattle.record_forms.proofs.Stated.{stated, states-back}
 use Rattle.records.specs.Signatures.{Signature, signature, z1Bytes, z2Bytes, listBytes, recordOf, signatureIn, refusalOf}
-use Rattle.records.specs.Writer.{Written, written, writingFor, writingOf}
+use Rattle.records.specs.Writer.{writingFor, writingOf}
 use Rattle.records.specs.Reader.{found, readingFor, readingOf}
 use Rattle.record_forms.specs.Sections.{fetched, sectionOf, z1Section, z2Section, listSection}
 use Rattle.records.proofs.Buffers.{refusal-proper}
@@ -41,7 +41,7 @@ pub record ReadsBack (set : ℕ) (z1 z2 : List ℤ) (list out : List ℕ) : Type
   pub s : Set
   pub asked : askedOf set ≡ Known s
   pub reads : (b1 b2 : List ℤ) (b3 : List ℕ) → length b1 ≡ dimension → length b2 ≡ dimension → length b3 ≡ listLimit
-      → readingOf (take (totalOf s) out) b1 b2 b3 ≡ found Done (numberOf s) z1 z2 (list ++ drop (kappaOf s) b3)
+      → readingOf (take (totalOf s) out) b1 b2 b3 ≡ found Done (setNumberOf s) z1 z2 (list ++ drop (kappaOf s) b3)
   pub z1-section : (p : ℕ × ℕ) → z1Section p (take (totalOf s) out) ≡ fetched (p .0, z1Offset + p .1) (z1Bytes (signature s z1 z2 list)) 0 0
   pub z2-section : (p : ℕ × ℕ) → z2Section p (take (totalOf s) out) ≡ fetched (p .0, z2Offset + p .1) (z2Bytes (signature s z1 z2 list)) 0 0
   pub list-section : (p : ℕ × ℕ) → listSection p (take (totalOf s) out) ≡ fetched (p .0, listOffset + p .1) (listBytes (signature s z1 z2 list)) 0 0
@@ -50,14 +50,14 @@ pub record ReadsBack (set : ℕ) (z1 z2 : List ℤ) (list out : List ℕ) : Type
 -- output that is long enough.
 pub record WritesBack (rec : List ℕ) (set : ℕ) (z1 z2 : List ℤ) (list : List ℕ) : Type 0 where
   pub s : Set
-  pub named : set ≡ numberOf s
-  pub writes : (out : List ℕ) → totalOf s ≤ length out → writingOf set z1 z2 (take (kappaOf s) list) out ≡ written Done (rec ++ drop (totalOf s) out)
+  pub named : set ≡ setNumberOf s
+  pub writes : (out : List ℕ) → totalOf s ≤ length out → writingOf set z1 z2 (take (kappaOf s) list) out ≡ filled Done (rec ++ drop (totalOf s) out)
 
 -- ---- what a call passed that is done
 not-done : {o : Outcome} → isDone o ≡ false → o ≡ Done → ⊥
 not-done e f = differ (sym e ∙ ap isDone f)
 
-refused-write : {o : Outcome} {out out′ : List ℕ} → isDone o ≡ false → written o out ≡ written Done out′ → ⊥
+refused-write : {o : Outcome} {out out′ : List ℕ} → isDone o ≡ false → filled o out ≡ filled Done out′ → ⊥
 refused-write {o} e f = let same : o ≡ Done = cc in not-done e same
 
 record Wrote (g : Signature) (out out′ : List ℕ) : Type 0 where
@@ -65,31 +65,31 @@ record Wrote (g : Signature) (out out′ : List ℕ) : Type 0 where
   kept : isDone (refusalOf g) ≡ true
   is : out′ ≡ recordOf g ++ drop (totalOf (g .set)) out
 
-wrote : (g : Signature) (out out′ : List ℕ) → writingFor g out ≡ written Done out′ → Wrote g out out′
+wrote : (g : Signature) (out out′ : List ℕ) → writingFor g out ≡ filled Done out′ → Wrote g out out′
 unfolding writingFor
 wrote g out out′ e =
-    let (l1, e1) = through (eqb (length (g .z1)) dimension) (written WrongLength out) _ _ (λ t. refused-write refl) e in
-    let (l2, e2) = through (eqb (length (g .z2)) dimension) (written WrongLength out) _ _ (λ t. refused-write refl) e1 in
-    let (kept, e3) = through (isDone (refusalOf g)) (written (refusalOf g) out) _ _ refused-write e2 in
-    let (room, e4) = through (leb (totalOf (g .set)) (length out)) (written OutputShort out) _ _ (λ t. refused-write refl) e3 in
+    let (l1, e1) = through (eqb (length (g .z1)) dimension) (filled WrongLength out) _ _ (λ t. refused-write refl) e in
+    let (l2, e2) = through (eqb (length (g .z2)) dimension) (filled WrongLength out) _ _ (λ t. refused-write refl) e1 in
+    let (kept, e3) = through (isDone (refusalOf g)) (filled (refusalOf g) out) _ _ refused-write e2 in
+    let (room, e4) = through (leb (totalOf (g .set)) (length out)) (filled OutputShort out) _ _ (λ t. refused-write refl) e3 in
     record {
       sized = record { z1-long = eqb-true _ _ l1; z2-long = eqb-true _ _ l2; list-long = proper-count (g .set) (g .list) (refusal-proper g kept) };
       kept = kept;
       is = sym (output e4);
     }
   where
-    output : {l l′ : List ℕ} → written Done l ≡ written Done l′ → l ≡ l′
+    output : {l l′ : List ℕ} → filled Done l ≡ filled Done l′ → l ≡ l′
     output e = cc
 
 -- ---- there
 module _ (g : Signature) (so : Sized g) (kept : isDone (refusalOf g) ≡ true) where
   reads-back : (b1 b2 : List ℤ) (b3 : List ℕ) → length b1 ≡ dimension → length b2 ≡ dimension → length b3 ≡ listLimit
-      → readingOf (recordOf g) b1 b2 b3 ≡ found Done (numberOf (g .set)) (g .z1) (g .z2) (g .list ++ drop (kappaOf (g .set)) b3)
+      → readingOf (recordOf g) b1 b2 b3 ≡ found Done (setNumberOf (g .set)) (g .z1) (g .z2) (g .list ++ drop (kappaOf (g .set)) b3)
   unfolding readingOf readingFor
   reads-back b1 b2 b3 l1 l2 l3 =
       rw (eq-eqb _ _ l1, eq-eqb _ _ l2, eq-eqb _ _ l3, states-back (record-stated g so))
       (ap
-      (λ (h : Signature). unless (refusalOf h) (λ o. found o 0 b1 b2 b3) (found Done (numberOf (g .set)) (h .z1) (h .z2) (h .list ++ drop (kappaOf (g .set)) b3)))
+      (λ (h : Signature). unless (refusalOf h) (λ o. found o 0 b1 b2 b3) (found Done (setNumberOf (g .set)) (h .z1) (h .z2) (h .list ++ drop (kappaOf (g .set)) b3)))
       (signature-back g so kept)
       ∙ rw kept)
 
@@ -97,7 +97,7 @@ module _ (g : Signature) (so : Sized g) (kept : isDone (refusalOf g) ≡ true) w
   unfolding sectionOf
   section-back from to bytes p e = rw (states-back (record-stated g so)) (ap (λ (l : List ℕ). fetched (p .0, from + p .1) l 0 0) e)
 
-pub written-reads : (set : ℕ) (z1 z2 : List ℤ) (list out out′ : List ℕ) → writingOf set z1 z2 list out ≡ written Done out′ → ReadsBack set z1 z2 list out′
+pub written-reads : (set : ℕ) (z1 z2 : List ℤ) (list out out′ : List ℕ) → writingOf set z1 z2 list out ≡ filled Done out′ → ReadsBack set z1 z2 list out′
 unfolding writingOf
 written-reads set z1 z2 list out out′ done = by-set (askedOf set) refl done
   where
@@ -115,7 +115,7 @@ written-reads set z1 z2 list out out′ done = by-set (askedOf set) refl done
           list-section = λ p. rw rec (section-back g (w .sized) (w .kept) listOffset _ (listBytes g) p (ap (λ (n : ℕ). part listOffset n (recordOf g)) total ∙ list-part g (w .sized)));
         }
 
-    by-set : (a : Asked) → askedOf set ≡ a → forSet a (written UnknownSet out) (λ s. writingFor (signature s z1 z2 list) out) ≡ written Done out′ → ReadsBack set z1 z2 list out′
+    by-set : (a : Asked) → askedOf set ≡ a → forSet a (filled UnknownSet out) (λ s. writingFor (signature s z1 z2 list) out) ≡ filled Done out′ → ReadsBack set z1 z2 list out′
     by-set Unknown asked e = absurd (refused-write refl e)
     by-set (Known s) asked e = known s asked (wrote (signature s z1 z2 list) out out′ e)
 
@@ -127,7 +127,7 @@ record Found-well (rec b3 : List ℕ) (set : ℕ) (z1 z2 : List ℤ) (list : Lis
   s : Set
   header : headerIn rec ≡ States s
   kept : isDone (refusalOf (signatureIn s rec)) ≡ true
-  is : (set ≡ numberOf s) × (z1 ≡ signatureIn s rec .z1) × (z2 ≡ signatureIn s rec .z2) × (list ≡ signatureIn s rec .list ++ drop (kappaOf s) b3)
+  is : (set ≡ setNumberOf s) × (z1 ≡ signatureIn s rec .z1) × (z2 ≡ signatureIn s rec .z2) × (list ≡ signatureIn s rec .list ++ drop (kappaOf s) b3)
 
 found-well : (rec b3 : List ℕ) (b1 b2 : List ℤ) (set : ℕ) (z1 z2 : List ℤ) (list : List ℕ) → readingOf rec b1 b2 b3 ≡ found Done set z1 z2 list
     → Found-well rec b3 set z1 z2 list
@@ -155,17 +155,17 @@ module _ (s : Set) (rec : List ℕ) where
   whole-long f width count bytes = length-map (unpacked width count bytes) f ∙ length-unpacked width count bytes
 
   writes-back : headerIn rec ≡ States s → isDone (refusalOf (signatureIn s rec)) ≡ true → every isByte rec ≡ true → (out : List ℕ) → totalOf s ≤ length out
-      → writingFor (signatureIn s rec) out ≡ written Done (rec ++ drop (totalOf s) out)
+      → writingFor (signatureIn s rec) out ≡ filled Done (rec ++ drop (totalOf s) out)
   unfolding writingFor
   writes-back header kept bytes out room =
       let small : (k : ℕ) → getD rec k 0 < 256 = λ k. ltb-true _ _ (every-anywhere isByte rec k 0 bytes refl) in
       rw (
-        eq-eqb _ _ (whole-long (signed 16) 2 dimension (part z1Offset z2Offset rec)),
-        eq-eqb _ _ (whole-long (signed 8) 1 dimension (part z2Offset listOffset rec)),
+        eq-eqb _ _ (whole-long (fromComplement 16) 2 dimension (part z1Offset z2Offset rec)),
+        eq-eqb _ _ (whole-long (fromComplement 8) 1 dimension (part z2Offset listOffset rec)),
         kept,
         le-leb _ _ room,
       )
-      (ap (λ (l : List ℕ). written Done (l ++ drop (totalOf s) out)) (record-back (stated rec header) small))
+      (ap (λ (l : List ℕ). filled Done (l ++ drop (totalOf s) out)) (record-back (stated rec header) small))
 
 pub read-writes : (rec : List ℕ) → every isByte rec ≡ true → (b1 b2 : List ℤ) (b3 : List ℕ) (set : ℕ) (z1 z2 : List ℤ) (list : List ℕ)
     → readingOf rec b1 b2 b3 ≡ found Done set z1 z2 list → WritesBack rec set z1 z2 list
@@ -182,6 +182,6 @@ read-writes rec bytes b1 b2 b3 set z1 z2 list done =
       writes = λ out room. again s set z1 z2 (take (kappaOf s) list) out (r .is .0) (r .is .1) (r .is .2) front (writes-back s rec (r .header) (r .kept) bytes out room);
     }
   where
-    again : (s : Set) (set : ℕ) (z1 z2 : List ℤ) (list out : List ℕ) {x : Written} → set ≡ numberOf s → z1 ≡ signatureIn s rec .z1 → z2 ≡ signatureIn s rec .z2
+    again : (s : Set) (set : ℕ) (z1 z2 : List ℤ) (list out : List ℕ) {x : Filled} → set ≡ setNumberOf s → z1 ≡ signatureIn s rec .z1 → z2 ≡ signatureIn s rec .z2
         → list ≡ signatureIn s rec .list → writingFor (signatureIn s rec) out ≡ x → writingOf set z1 z2 list out ≡ x
     again s set z1 z2 list out e f g h w = rw (e, f, g, h, asked-back s) w

@@ -9,7 +9,7 @@ use Rattle.answers.specs.declared.Outcome.{Outcome}
 use Rattle.answers.specs.declared.Outcome.the-variants.{ImproperList}
 use Rattle.vectors.specs.Places.{properList}
 use Rattle.limits.specs.LengthRule.{lengthRule}
-use Rattle.byte_codes.specs.Bytes.{packed, unpacked, complement, signed}
+use Rattle.byte_codes.specs.Bytes.{packed, unpacked, complement, fromComplement}
 use Rattle.record_forms.specs.Headers.{z1Offset, z2Offset, listOffset, headerOf, part}
 
 -- z2 is z2 dagger
@@ -39,8 +39,8 @@ recordOf g = headerOf (g .set) ++ z1Bytes g ++ z2Bytes g ++ listBytes g
 abbrev pub signatureIn : Set → List ℕ → Signature
 signatureIn s rec =
     signature s
-    (map (signed 16) (unpacked 2 dimension (part z1Offset z2Offset rec)))
-    (map (signed 8) (unpacked 1 dimension (part z2Offset listOffset rec)))
+    (map (fromComplement 16) (unpacked 2 dimension (part z1Offset z2Offset rec)))
+    (map (fromComplement 8) (unpacked 1 dimension (part z2Offset listOffset rec)))
     (unpacked 2 (kappaOf s) (part listOffset (totalOf s) rec))
 
 -- what a signature is refused for, whichever way it came: 5, 10, 11

@@ -9,7 +9,7 @@ use Rattle.sets.specs.declared.Set.{Set}
 use Rattle.sets.specs.declared.Set.the-variants.{I, II, III, IV}
 use Rattle.sets.specs.declared.Asked.{Asked}
 use Rattle.sets.specs.declared.Asked.the-variants.{Known, Unknown}
-use Rattle.sets.specs.Numbers.{twiceModulus, maskLimit, listLimit, recordLimit, kappaOf, dOf, pOf, largestOf, keyLimitOf, totalOf, numberOf, namedOf, askedOf}
+use Rattle.sets.specs.Numbers.{twiceModulus, maskLimit, listLimit, recordLimit, kappaOf, dOf, pOf, largestOf, keyLimitOf, totalOf, setNumberOf, namedOf, askedOf}
 
 -- a statement about a set, from its four cases
 pub each : (P : Set → Type 0) → P I → P II → P III → P IV → (s : Set) → P s
@@ -83,18 +83,18 @@ pub total-small : (s : Set) → totalOf s < 2 ^ 16
 total-small = each _ (lit< tt) (lit< tt) (lit< tt) (lit< tt)
 
 -- a set's number stands for the set, in a record and on a call
-pub named-back : (s : Set) → namedOf (numberOf s) ≡ Known s
+pub named-back : (s : Set) → namedOf (setNumberOf s) ≡ Known s
 unfolding namedOf
 named-back = each _ refl refl refl refl
 
 -- and no other number does
-named-step : (s s′ : Set) (n : ℕ) (rest : Asked) → (rest ≡ Known s → n ≡ numberOf s) → cond (eqb n (numberOf s′)) (Known s′) rest ≡ Known s → n ≡ numberOf s
+named-step : (s s′ : Set) (n : ℕ) (rest : Asked) → (rest ≡ Known s → n ≡ setNumberOf s) → cond (eqb n (setNumberOf s′)) (Known s′) rest ≡ Known s → n ≡ setNumberOf s
 named-step s s′ n rest later =
-    cond-ind (eqb n (numberOf s′)) (Known s′) rest (λ a. a ≡ Known s → n ≡ numberOf s)
-    (λ t e. let same : s′ ≡ s = cc in eqb→eq n (numberOf s′) t ∙ ap numberOf same)
+    cond-ind (eqb n (setNumberOf s′)) (Known s′) rest (λ a. a ≡ Known s → n ≡ setNumberOf s)
+    (λ t e. let same : s′ ≡ s = cc in eqb→eq n (setNumberOf s′) t ∙ ap setNumberOf same)
     (λ t. later)
 
-pub named-is : (s : Set) (n : ℕ) → namedOf n ≡ Known s → n ≡ numberOf s
+pub named-is : (s : Set) (n : ℕ) → namedOf n ≡ Known s → n ≡ setNumberOf s
 unfolding namedOf
 named-is s n =
     named-step s I n _
@@ -106,9 +106,9 @@ named-is s n =
     none : _≡_ {A = ℕ} 0 1 → ⊥
     none z = omega arith
 
-pub number-small : (s : Set) → numberOf s < 256
+pub number-small : (s : Set) → setNumberOf s < 256
 number-small = each _ (lit< tt) (lit< tt) (lit< tt) (lit< tt)
 
-pub asked-back : (s : Set) → askedOf (numberOf s) ≡ Known s
+pub asked-back : (s : Set) → askedOf (setNumberOf s) ≡ Known s
 unfolding askedOf namedOf
 asked-back = each _ refl refl refl refl

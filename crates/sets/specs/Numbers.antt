@@ -92,11 +92,11 @@ totalOf s = 1560 + 2 * kappaOf s
 -- ---- numbers for sets
 
 -- No.
-abbrev pub numberOf : Set → ℕ
-numberOf I = 1
-numberOf II = 2
-numberOf III = 3
-numberOf IV = 4
+abbrev pub setNumberOf : Set → ℕ
+setNumberOf I = 1
+setNumberOf II = 2
+setNumberOf III = 3
+setNumberOf IV = 4
 
 -- the set of that number
 unfoldable pub namedOf : ℕ → Asked

@@ -1,7 +1,7 @@
 // The parameter sets: the numbers of a set are asked of the set and stand nowhere else (01, "Parameters").
 ghost use mathlib.Core.Path.{_≡_};
 ghost use Prim.Native.Nat.{_^_};
-ghost use Rattle.sets.specs.Numbers.{kappaOf, dOf, pOf, largestOf, boundSquaredOf, keyLimitOf, totalOf, numberOf, namedOf, askedOf};
+ghost use Rattle.sets.specs.Numbers.{kappaOf, dOf, pOf, largestOf, boundSquaredOf, keyLimitOf, totalOf, setNumberOf, namedOf, askedOf};
 
 pub enum Set {
     I,
@@ -123,7 +123,7 @@ impl Set {
 
     // The number that stands in a record.
     pub fn number(self) -> u32
-        ensures { λ r. ⌜ r ≡ numberOf self ⌝ }
+        ensures { λ r. ⌜ r ≡ setNumberOf self ⌝ }
     {
         match self {
             Set::I => 1,

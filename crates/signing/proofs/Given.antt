@@ -7,14 +7,14 @@ use lib.IntN.{ℤ}
 use lib.ListN.{length}
 use Rattle.sets.specs.declared.Set.{Set}
 use Rattle.answers.specs.declared.Outcome.{Outcome}
-use Rattle.answers.specs.declared.Outcome.the-variants.{Done, Rejected, WordMissing}
+use Rattle.answers.specs.declared.Outcome.the-variants.{Done, DrawRejected, WordMissing}
 use Rattle.answers.specs.Outcomes.{isDone}
 use Rattle.answers.proofs.Calls.{refused, admitted}
 use Rattle.limits.specs.LengthRule.{lengthRule}
 use Rattle.commitment.specs.Commitment.{sums}
-use Rattle.choices.specs.Choices.{Pair}
+use Rattle.vectors.specs.Pairs.{Pair}
 use Rattle.draw.specs.declared.Ending.{Ending}
-use Rattle.draw.specs.declared.Ending.the-variants.{Accepted, Rejected as RejectedBy, OutOfWords}
+use Rattle.draw.specs.declared.Ending.the-variants.{Accepted, Rejected, OutOfWords}
 use Rattle.draw.specs.Draw.{walkOf}
 use Rattle.signing.specs.Response.{Responded, responded, firstTrial, secondTrial, daggers, given, drawn}
 
@@ -31,7 +31,7 @@ module _ (s : Set) (a : List ℕ) (y z v : Pair) (thresholds words : List ℕ) (
   unfolding drawn
   drawn-short f = rw (sym e ∙ f)
 
-  pub drawn-rejected : (count : ℕ) → ending ≡ RejectedBy count → responded Rejected count out1 out2 ≡ drawn s a y z v thresholds words out1 out2
+  pub drawn-rejected : (count : ℕ) → ending ≡ Rejected count → responded DrawRejected count out1 out2 ≡ drawn s a y z v thresholds words out1 out2
   unfolding drawn
   drawn-rejected count f = rw (sym e ∙ f)
 

@@ -19,13 +19,14 @@ use Rattle.answers.specs.declared.Outcome.{Outcome}
 use Rattle.answers.specs.declared.Outcome.the-variants.{Done, RelationBroken, KeyTooLong}
 use Rattle.answers.specs.Outcomes.{isDone}
 use Rattle.answers.proofs.Calls.{done-test}
-use Rattle.vectors.specs.Vectors.{within, squares}
+use Rattle.vectors.specs.Vectors.{sized, within, squares}
 use Rattle.vectors.specs.Places.{properList}
 use Rattle.vectors.proofs.Ranges.{within-at}
 use Rattle.vectors.proofs.Rising.{proper-count, proper-places}
-use Rattle.keys.specs.Key.{keyLength, relation, properKey, sized}
+use Rattle.keys.specs.Key.{relation, properKey}
 use Rattle.keys.proofs.Ranges.{sized-is}
-use Rattle.choices.specs.Choices.{Pair, pair, squaresPair, signed, choices}
+use Rattle.vectors.specs.Pairs.{Pair, pair, squaresPair}
+use Rattle.choices.specs.Choices.{addedIf, choices}
 use Rattle.choices.proofs.Pairs.{Sized, Within}
 use Rattle.choices.proofs.Bound.{choices-sized, choices-bound}
 use Rattle.choices.proofs.Sums.{choices-within}
@@ -55,8 +56,8 @@ sized-eight f g a y1 y2 z1 z2 thresholds e =
 pub short-key : (s : Set) (a : List ℕ) (s1 s2 : List ℤ) → isDone (properKey s a s1 s2) ≡ true → squares s1 + squares s2 ≤ keyLimitOf s
 unfolding properKey
 short-key s a s1 s2 e =
-    leb-true (keyLength s1 s2) (keyLimitOf s)
-    (done-test KeyTooLong (must (relation a s1 s2) RelationBroken Done) refl (leb (keyLength s1 s2) (keyLimitOf s)) e)
+    leb-true (squaresPair (pair s1 s2)) (keyLimitOf s)
+    (done-test KeyTooLong (must (relation a s1 s2) RelationBroken Done) refl (leb (squaresPair (pair s1 s2)) (keyLimitOf s)) e)
 
 pub few-places : (s : Set) (l : List ℕ) → properList s l ≡ true → length l ≤ listLimit
 few-places s l proper = omega (arith, proper-count s l proper, kappa-within s)
@@ -87,7 +88,7 @@ module _ (s : Set) (s1 s2 : List ℤ) (l : List ℕ) (l1 : length s1 ≡ dimensi
 
 -- ---- the draw with the choices that were made
 pub drawn-at : (s : Set) (a : List ℕ) (y1 y2 : List ℤ) (bit : Bool) (v1 v2 : List ℤ) (v : Pair) (thresholds words : List ℕ) (z1 z2 : List ℤ) → pair v1 v2 ≡ v
-    → drawn s a (pair y1 y2) (pair (zipWith (signed (not bit)) y1 v1) (zipWith (signed (not bit)) y2 v2)) (pair v1 v2) thresholds words z1 z2
+    → drawn s a (pair y1 y2) (pair (zipWith (addedIf (not bit)) y1 v1) (zipWith (addedIf (not bit)) y2 v2)) (pair v1 v2) thresholds words z1 z2
     ≡ drawn s a (pair y1 y2) (masked bit (pair y1 y2) v) v thresholds words z1 z2
 unfolding masked
 drawn-at s a y1 y2 bit v1 v2 v thresholds words z1 z2 e =

@@ -10,14 +10,16 @@ use Rattle.laws.specs.Refusals.{must}
 use Rattle.sets.specs.declared.Set.{Set}
 use Rattle.sets.specs.Numbers.{places, kappaOf, keyLimitOf, askedOf}
 use Rattle.answers.specs.declared.Outcome.{Outcome}
-use Rattle.answers.specs.declared.Outcome.the-variants.{Done, UnknownSet, WrongLength, CoefficientOutside, MaskOutside, ImproperList, Rejected, WordMissing}
+use Rattle.answers.specs.declared.Outcome.the-variants.{Done, UnknownSet, WrongLength, CoefficientOutside, MaskOutside, ImproperList, DrawRejected, WordMissing}
 use Rattle.answers.specs.Outcomes.{unless, forSet}
 use Rattle.rounding.specs.Rounding.{dagger}
 use Rattle.vectors.specs.Places.{properList}
 use Rattle.limits.specs.LengthRule.{lengthRule}
-use Rattle.keys.specs.Key.{inRange, second, properKey, sized}
+use Rattle.vectors.specs.Vectors.{sized}
+use Rattle.keys.specs.Key.{inRange, second, properKey}
 use Rattle.commitment.specs.Commitment.{areMasks, sums}
-use Rattle.choices.specs.Choices.{Pair, pair, squaresPair, innerPair, signed, choices}
+use Rattle.vectors.specs.Pairs.{Pair, pair, squaresPair, innerPair}
+use Rattle.choices.specs.Choices.{addedIf, choices}
 use Rattle.draw.specs.Draw.{walkOf, afterWalk}
 
 -- what the response leaves behind: the outcome, the count of words taken, and the contents of the vectors z1 and z2 dagger
@@ -26,7 +28,7 @@ pub data Responded : Type 0 where
 
 -- z = y + v for sign bit 0 (no), y - v for sign bit 1 (yes), over whole numbers
 unfoldable pub masked : Bool → Pair → Pair → Pair
-masked bit y v = pair (zipWith (signed (not bit)) (y .first) (v .first)) (zipWith (signed (not bit)) (y .second) (v .second))
+masked bit y v = pair (zipWith (addedIf (not bit)) (y .first) (v .first)) (zipWith (addedIf (not bit)) (y .second) (v .second))
 
 -- the numbers of the two trials: kappa K minus the squared length of v; twice the absolute value of the inner product of z and v
 abbrev pub firstTrial : Set → Pair → ℕ
@@ -50,7 +52,7 @@ unfoldable pub drawn : Set → List ℕ → Pair → Pair → Pair → List ℕ 
 drawn s a y z v thresholds words out1 out2 =
     afterWalk (walkOf (firstTrial s v) (secondTrial z v) words thresholds)
     (λ count. given s count (z .first) (daggers s (sums a (y .first) (y .second)) (z .second)) out1 out2)
-    (λ count. responded Rejected count out1 out2)
+    (λ count. responded DrawRejected count out1 out2)
     (responded WordMissing (length words) out1 out2)
 
 -- the squared length of the key and its relation, then the sign choices and the draw: 7, 6, 8 or 9, 10, 11

@@ -8,10 +8,11 @@ ghost use lib.ListN.{length, getD};
 ghost use Rattle.laws.specs.Lists.{every, zipWith};
 ghost use Rattle.sets.specs.Numbers.{dimension, places, kappaOf, keyLimitOf};
 ghost use Rattle.ring.specs.Transform.{spectrumOf};
-ghost use Rattle.vectors.specs.Vectors.{within, squares, sizes};
+ghost use Rattle.vectors.specs.Vectors.{isDimension, within, squares, sizes};
 ghost use Rattle.vectors.specs.Places.{properList};
 ghost use Rattle.commitment.specs.Commitment.{isReduced, areMasks, sums};
-ghost use Rattle.choices.specs.Choices.{pair, signed};
+ghost use Rattle.vectors.specs.Pairs.{pair};
+ghost use Rattle.choices.specs.Choices.{addedIf};
 ghost use Rattle.signing.specs.Response.{responded, firstTrial, secondTrial, daggers, given, drawn, signedWith, tested, responseFor, response};
 use answers::Outcome;
 use draw::Ending;
@@ -99,7 +100,7 @@ fn all_sized(
     z2: usize,
     thresholds: usize,
 ) -> bool
-    ensures { λ r. ⌜ r ≡ eqb f dimension && (eqb g dimension && (eqb a dimension && (eqb y1 dimension && (eqb y2 dimension && (eqb z1 dimension && (eqb z2 dimension && eqb thresholds places)))))) ⌝ }
+    ensures { λ r. ⌜ r ≡ isDimension f && (isDimension g && (isDimension a && (isDimension y1 && (isDimension y2 && (isDimension z1 && (isDimension z2 && eqb thresholds places)))))) ⌝ }
 {
     if f != Set::DIMENSION {
         return false;
@@ -244,7 +245,7 @@ fn draw_for(
     requires { ⌜ ((k : ℕ) → natAbs (getD (now v1) k (pos 0)) ≤ 5 * kappaOf s) × ((k : ℕ) → natAbs (getD (now v2) k (pos 0)) ≤ 5 * kappaOf s) ⌝ }
     ensures { λ r. ⌜ responded (r .outcome) (r .words) (now (z1 .exit)) (now (z2 .exit))
         ≡ drawn s (now (a .entry)) (pair (now (y1 .entry)) (now (y2 .entry)))
-        (pair (zipWith (signed (not sign)) (now (y1 .entry)) (now (v1 .entry))) (zipWith (signed (not sign)) (now (y2 .entry)) (now (v2 .entry))))
+        (pair (zipWith (addedIf (not sign)) (now (y1 .entry)) (now (v1 .entry))) (zipWith (addedIf (not sign)) (now (y2 .entry)) (now (v2 .entry))))
         (pair (now (v1 .entry)) (now (v2 .entry))) (now (thresholds .entry)) (now (words .entry)) (now (z1 .entry)) (now (z2 .entry)) ⌝ }
 {
     let mut w1 = [0i16; Set::DIMENSION];
@@ -259,7 +260,7 @@ fn draw_for(
             words: words.len(),
         },
         Ending::Rejected(taken) => Response {
-            outcome: Outcome::Rejected,
+            outcome: Outcome::DrawRejected,
             words: taken,
         },
         Ending::Accepted(taken) => give(s, a, spectrum, y1, y2, &w1, &w2, taken, z1, z2),
@@ -270,7 +271,7 @@ fn draw_for(
 fn mask(y: &[i16], v: &[i16], sign: bool, z: &mut [i16])
     requires { ⌜ (length (now y) ≡ dimension) × (length (now v) ≡ dimension) × (length (now z) ≡ dimension) ⌝ }
     requires { ⌜ ((k : ℕ) → natAbs (getD (now y) k (pos 0)) + natAbs (getD (now v) k (pos 0)) < 32768) ⌝ }
-    ensures { λ _. ⌜ now (z .exit) ≡ zipWith (signed (not sign)) (now (y .entry)) (now (v .entry)) ⌝ }
+    ensures { λ _. ⌜ now (z .exit) ≡ zipWith (addedIf (not sign)) (now (y .entry)) (now (v .entry)) ⌝ }
 {
     vectors::copy(z, y);
     if sign {

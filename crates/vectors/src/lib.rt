@@ -5,12 +5,11 @@ ghost use mathlib.Core.Path.{_≡_};
 ghost use mathlib.Core.Bool.{true, _&&_};
 ghost use mathlib.Core.List.{map};
 ghost use Prim.Native.Nat.{ℕ, _+_, _*_, _^_, _<_};
-ghost use lib.Dec.{eqb};
 ghost use lib.IntN.{pos, negℤ, natAbs, _+ℤ_, _-ℤ_, _*ℤ_};
 ghost use lib.ListN.{length, getD};
 ghost use Rattle.laws.specs.Lists.{every, zipWith};
 ghost use Rattle.sets.specs.Numbers.{dimension};
-ghost use Rattle.vectors.specs.Vectors.{within, below, squares, inner, sizes, mirrored};
+ghost use Rattle.vectors.specs.Vectors.{isDimension, within, below, squares, inner, sizes, mirrored};
 ghost use Rattle.vectors.specs.Places.{rising, properList};
 use sets::Set;
 
@@ -18,7 +17,7 @@ use sets::Set;
 
 // Whether three, or four, lengths are 512.
 pub fn three_sized(x: usize, y: usize, z: usize) -> bool
-    ensures { λ r. ⌜ r ≡ eqb x dimension && (eqb y dimension && eqb z dimension) ⌝ }
+    ensures { λ r. ⌜ r ≡ isDimension x && (isDimension y && isDimension z) ⌝ }
 {
     if x != Set::DIMENSION {
         return false;
@@ -30,7 +29,7 @@ pub fn three_sized(x: usize, y: usize, z: usize) -> bool
 }
 
 pub fn four_sized(w: usize, x: usize, y: usize, z: usize) -> bool
-    ensures { λ r. ⌜ r ≡ eqb w dimension && (eqb x dimension && (eqb y dimension && eqb z dimension)) ⌝ }
+    ensures { λ r. ⌜ r ≡ isDimension w && (isDimension x && (isDimension y && isDimension z)) ⌝ }
 {
     if w != Set::DIMENSION {
         return false;

@@ -1,5 +1,5 @@
 use mathlib.Core.Path.{_≡_, refl, sym, _∙_}
-use Rattle.sets.specs.Numbers.{numberOf}
+use Rattle.sets.specs.Numbers.{setNumberOf}
 use Rattle.answers.specs.declared.Outcome.the-variants.{Done}
 use Rattle.records.proofs.Buffers.{kappa-room}
 use Rattle.agreement.proofs.Given.{never, list-long, was-read, rebuilds-read}
@@ -11,7 +11,7 @@ module _ (c : tie.After-read) where
   abbrev start : tie.Start
   start = c .before .before .before .before .before .before .before
 
-  read-done : (c .read .result .outcome ≡ Done) × (c .read .result .set ≡ numberOf (start .args .s))
+  read-done : (c .read .result .outcome ≡ Done) × (c .read .result .set ≡ setNumberOf (start .args .s))
   read-done = was-read _ _ _ _ (start .pre) _ _ _ _ _ _ _ _ refl refl refl (c .read .ensures)
 
 slice-aggregate-read : tie.Need-slice-aggregate-read

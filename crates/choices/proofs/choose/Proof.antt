@@ -13,7 +13,7 @@ use Rattle.polynomials.proofs.Shift.{shift-window}
 use Rattle.vectors.specs.Places.{isPlace}
 use Rattle.vectors.specs.Vectors.{squares, mirrored}
 use Rattle.vectors.proofs.Ranges.{within-wider}
-use Rattle.choices.specs.Choices.{Pair, pair}
+use Rattle.vectors.specs.Pairs.{Pair, pair}
 use Rattle.choices.proofs.Pairs.{Sized}
 use Rattle.choices.proofs.Bound.{sized-column, squares-column}
 use Rattle.choices.proofs.Walk.{Walked, walk-start, walk-more, walk-end, walk-room}

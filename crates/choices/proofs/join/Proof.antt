@@ -9,7 +9,7 @@ use lib.ListN.{getD}
 use Rattle.laws.specs.Lists.{zipWith}
 use Rattle.vectors.specs.Vectors.{squares}
 use Rattle.vectors.proofs.Lengths.{entry-le}
-use Rattle.choices.specs.Choices.{signed}
+use Rattle.choices.specs.Choices.{addedIf}
 use Rattle.choices.proofs.join.Statement.{statement}
 use Rattle.choices.proofs.join.Tie as tie
 
@@ -18,8 +18,8 @@ room : (v c : List ℤ) → squares v + squares c ≤ 2 ^ 26 → (k : ℕ) → n
 room v c h k = omega (arith, entry-le 8192 v (omega arith) k, entry-le 8192 c (omega arith) k)
 
 -- the operation, by the flag's value
-way : {b add : Bool} (v c : List ℤ) → add ≡ b → zipWith (signed b) v c ≡ zipWith (signed add) v c
-way v c e = ap (λ (t : Bool). zipWith (signed t) v c) (sym e)
+way : {b add : Bool} (v c : List ℤ) → add ≡ b → zipWith (addedIf b) v c ≡ zipWith (addedIf add) v c
+way v c e = ap (λ (t : Bool). zipWith (addedIf t) v c) (sym e)
 
 add-to-requires : tie.Need-add-to-requires
 add-to-requires c κs =

@@ -12,7 +12,8 @@ use Rattle.laws.proofs.Machine.{Reads, element, held, add-ok, add-is, lt-is}
 use Rattle.vectors.specs.Vectors.{squares, inner}
 use Rattle.vectors.proofs.Lengths.{sizes-le-squares}
 use Rattle.vectors.proofs.Sums.{inner-le-sizes}
-use Rattle.choices.specs.Choices.{Pair, pair, innerPair, signed, chosen}
+use Rattle.vectors.specs.Pairs.{Pair, pair, innerPair}
+use Rattle.choices.specs.Choices.{addedIf, chosen}
 use Rattle.choices.proofs.step.Statement.{statement}
 use Rattle.choices.proofs.step.Tie as tie
 
@@ -88,7 +89,7 @@ unfolding chosen
 returns c =
     let p = c .before .before .before .before .before .before in
     ap₂ pair (c .before .before .before .before .join .ensures) (c .before .join2 .ensures)
-    ∙ ap (λ (b : Bool). pair (zipWith (signed b) (vector (start p) .first) (column (start p) .first)) (zipWith (signed b) (vector (start p) .second) (column (start p) .second))) (sign-is p)
+    ∙ ap (λ (b : Bool). pair (zipWith (addedIf b) (vector (start p) .first) (column (start p) .first)) (zipWith (addedIf b) (vector (start p) .second) (column (start p) .second))) (sign-is p)
 
 pub step-spec : {M : Type 1} → statement M
 step-spec =

@@ -9,7 +9,7 @@ use Rattle.sets.specs.Numbers.{kappaOf, keyLimitOf}
 use Rattle.sets.proofs.Alike.{kappa-within}
 use Rattle.vectors.specs.Vectors.{squares}
 use Rattle.vectors.proofs.Rising.{proper-count, proper-places}
-use Rattle.choices.specs.Choices.{Pair, pair, squaresPair}
+use Rattle.vectors.specs.Pairs.{Pair, pair, squaresPair}
 use Rattle.choices.proofs.Bound.{choices-bound}
 use Rattle.response_points.proofs.choose.Statement.{statement}
 use Rattle.response_points.proofs.choose.Tie as tie

@@ -11,8 +11,8 @@ use Rattle.sets.specs.Numbers.{dimension}
 use Rattle.vectors.specs.Vectors.{squares}
 use Rattle.vectors.proofs.Lengths.{entry-le}
 use Rattle.vectors.proofs.Ranges.{within-at}
-use Rattle.choices.specs.Choices.{signed, zeros}
-use Rattle.choices.proofs.Pairs.{signed-within}
+use Rattle.choices.specs.Choices.{addedIf, zeros}
+use Rattle.choices.proofs.Pairs.{addedIf-within}
 use Rattle.response_points.proofs.mask.Statement.{statement}
 use Rattle.response_points.proofs.mask.Tie as tie
 
@@ -33,8 +33,8 @@ module _ (y v : List ℤ) (is-zero : y ≡ zeros) (long : length v ≡ dimension
   fits : (k : ℕ) → natAbs (getD y k (pos 0)) + natAbs (getD v k (pos 0)) < 32768
   fits k = omega (arith, none k, small k)
 
-  masked : (b : Bool) (z : List ℤ) → z ≡ zipWith (signed b) y v → (k : ℕ) → natAbs (getD z k (pos 0)) ≤ 2 ^ 9
-  masked b z e k = rw e (signed-within b y v (sized ∙ sym long) k 0 512 (none k) (small k))
+  masked : (b : Bool) (z : List ℤ) → z ≡ zipWith (addedIf b) y v → (k : ℕ) → natAbs (getD z k (pos 0)) ≤ 2 ^ 9
+  masked b z e k = rw e (addedIf-within b y v (sized ∙ sym long) k 0 512 (none k) (small k))
 
 subtract-from-requires : tie.Need-subtract-from-requires
 subtract-from-requires c κs =

@@ -5,7 +5,7 @@ use native.Mathlib.Omega.{arith}
 use borrow.Author.Needs.{needs}
 use lib.Dec.{lit≤}
 use lib.IntN.{pos}
-use lib.ListN.{length-take, set}
+use lib.ListN.{length-take, set as update}
 use Rattle.laws.specs.Lists.{every}
 use Rattle.laws.proofs.Chain.{passed}
 use Rattle.sets.specs.declared.Set.{Set}
@@ -16,11 +16,11 @@ use Rattle.choices.specs.Choices.{zeros}
 use Rattle.response_points.proofs.print_response.Statement.{statement}
 use Rattle.response_points.proofs.print_response.Tie as tie
 
-one-within : every (within 5) (set zeros 0 (pos 1)) ≡ true
+one-within : every (within 5) (update zeros 0 (pos 1)) ≡ true
 unfolding every
 one-within = refl
 
-one-squares : squares (set zeros 0 (pos 1)) ≡ 1
+one-squares : squares (update zeros 0 (pos 1)) ≡ 1
 unfolding squares
 one-squares = refl
 

@@ -8,7 +8,8 @@ use Rattle.laws.specs.Lists.{zipWith}
 use Rattle.laws.proofs.Entries.{length-zipWith}
 use Rattle.sets.specs.Numbers.{dimension, maskLimit}
 use Rattle.vectors.specs.Vectors.{squares, sizes}
-use Rattle.choices.specs.Choices.{pair, signed}
+use Rattle.vectors.specs.Pairs.{pair}
+use Rattle.choices.specs.Choices.{addedIf}
 use Rattle.draw.specs.Draw.{walkOf}
 use Rattle.signing.specs.Response.{firstTrial, secondTrial}
 use Rattle.signing.proofs.Given.{drawn-short, drawn-rejected, drawn-accepted, given-carried}
@@ -37,10 +38,10 @@ module _ (s : tie.Start) where
   V2 = s .args .v2 .now
 
   abbrev Z1 : List ℤ
-  Z1 = zipWith (signed (not (s .args .sign))) Y1 V1
+  Z1 = zipWith (addedIf (not (s .args .sign))) Y1 V1
 
   abbrev Z2 : List ℤ
-  Z2 = zipWith (signed (not (s .args .sign))) Y2 V2
+  Z2 = zipWith (addedIf (not (s .args .sign))) Y2 V2
 
   small1 : (k : ℕ) → natAbs (getD Y1 k (pos 0)) ≤ maskLimit
   small1 = first-mask Y1 Y2 (s .pre .1 .1 .0 .1)
@@ -56,10 +57,10 @@ module _ (s : tie.Start) where
       (s .pre .1 .1 .0 .2)
 
   long1 : length Z1 ≡ dimension
-  long1 = length-zipWith (signed (not (s .args .sign))) Y1 V1 (s .pre .1 .0 .0 ∙ sym (s .pre .0 .0)) ∙ s .pre .1 .0 .0
+  long1 = length-zipWith (addedIf (not (s .args .sign))) Y1 V1 (s .pre .1 .0 .0 ∙ sym (s .pre .0 .0)) ∙ s .pre .1 .0 .0
 
   long2 : length Z2 ≡ dimension
-  long2 = length-zipWith (signed (not (s .args .sign))) Y2 V2 (s .pre .1 .0 .1 ∙ sym (s .pre .0 .1)) ∙ s .pre .1 .0 .1
+  long2 = length-zipWith (addedIf (not (s .args .sign))) Y2 V2 (s .pre .1 .0 .1 ∙ sym (s .pre .0 .1)) ∙ s .pre .1 .0 .1
 
 mask-requires : tie.Need-mask-requires
 mask-requires c κs =

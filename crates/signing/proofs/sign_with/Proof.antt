@@ -13,7 +13,7 @@ use Rattle.answers.proofs.Calls.{refused, admitted}
 use Rattle.vectors.specs.Vectors.{squares}
 use Rattle.vectors.proofs.Rising.{proper-places}
 use Rattle.keys.specs.Key.{properKey}
-use Rattle.choices.specs.Choices.{pair}
+use Rattle.vectors.specs.Pairs.{pair}
 use Rattle.choices.proofs.Pairs.{Sized, Within}
 use Rattle.signing.specs.Response.{responded, signedWith}
 use Rattle.signing.proofs.Ways.{refusal-at, short-key, few-places, chosen-sized, chosen-short, chosen-within, drawn-at}
