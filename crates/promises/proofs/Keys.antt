@@ -15,7 +15,7 @@ use Rattle.sets.specs.declared.Set.{Set}
 use Rattle.sets.specs.declared.Asked.the-variants.{Known}
 use Rattle.sets.specs.Numbers.{dimension, keyLimitOf, askedOf}
 use Rattle.answers.specs.declared.Outcome.the-variants.{Done, UnknownSet, WrongLength, CoefficientOutside, RelationBroken, KeyTooLong}
-use Rattle.answers.specs.Outcomes.{isDone, forSet}
+use Rattle.answers.specs.Outcomes.{numberOf, isDone, forSet}
 use Rattle.polynomials.specs.Product.{product, one}
 use Rattle.polynomials.proofs.Carries.{Carries}
 use Rattle.polynomials.proofs.Residues.{residues}
@@ -25,7 +25,8 @@ use Rattle.keys.proofs.Ranges.{sized-three}
 use Rattle.keys.proofs.Second.{double, length-second}
 use Rattle.vectors.specs.Pairs.{pair, squaresPair}
 use Rattle.choices.proofs.Pairs.{Sized}
-use Rattle.promises.proofs.Passed.{itself, must-passed, set-known}
+use Rattle.signing.specs.Response.{Lent}
+use Rattle.promises.proofs.Passed.{zero-is, itself, must-passed, set-known}
 
 -- ---- the tests of a key
 module _ (s : Set) (a : List ℕ) (s1 s2 : List ℤ) (h : properKey s a s1 s2 ≡ Done) where
@@ -68,6 +69,10 @@ key-tested s f g a h =
       ranges = next .0;
       proper = sym (next .2) ∙ sym (first .2) ∙ h;
     }
+
+-- of what a signing call is lent
+pub passing : (set : ℕ) (s : Set) (c : Lent) → askedOf set ≡ Known s → numberOf (keyTest set (c .f) (c .g) (c .a)) ≡ 0 → Tested s (c .f) (c .g) (c .a)
+passing set s c known passes = key-tested s (c .f) (c .g) (c .a) (key-tested-for set s (c .f) (c .g) (c .a) known (zero-is _ passes))
 
 pub key-tested-some : (set : ℕ) (f g : List ℤ) (a : List ℕ) → keyTest set f g a ≡ Done → (s : Set) × Tested s f g a
 unfolding keyTest

@@ -16,6 +16,8 @@ use Rattle.laws.proofs.Entries.{length-zipWith, getD-zipWith, getD-map, length-
 use Rattle.laws.proofs.Solver.{v, k, _⊕_, _⊖_, _⊗_, ring}
 use Rattle.sets.specs.Numbers.{dimension, modulus, twiceModulus, factor, dOf, largestOf}
 use Rattle.answers.specs.declared.Outcome.{Outcome}
+use Rattle.answers.specs.declared.Outcome.the-variants.{Done}
+use Rattle.answers.specs.Outcomes.{numberOf}
 use Rattle.polynomials.specs.Product.{wrapped, coefficient, times, product, one}
 use Rattle.polynomials.proofs.Carries.{Carries}
 use Rattle.polynomials.proofs.One.{length-one}
@@ -25,7 +27,7 @@ use Rattle.rounding.specs.Rounding.{summed}
 use Rattle.vectors.specs.Places.{listed}
 use Rattle.limits.specs.LengthRule.{entries, lengthRule}
 use Rattle.limits.proofs.Rule.{first-within, second-within, sum-within}
-use Rattle.keys.specs.Key.{second}
+use Rattle.keys.specs.Key.{second, keyTest}
 use Rattle.keys.proofs.Second.{length-second}
 use Rattle.commitment.specs.Commitment.{sums}
 use Rattle.commitment.proofs.Sums.{length-sums}
@@ -35,6 +37,7 @@ use Rattle.signing.specs.Response.{masked}
 use Rattle.checking.specs.Checking.{marks}
 use Rattle.checking.proofs.Marks.{length-marks, getD-marks}
 use Rattle.promises.specs.Published.{scaled, vectorSum, modulo2q, zeta, ZetaInverts, a₁, KeyEquation, CommitmentSum, challenge, RebuildSum, minusOneTo, SignBit, LengthRules}
+use Rattle.promises.proofs.Passed.{zero-is}
 use Rattle.promises.proofs.Keys.{key-tested-some, key-carries, second-parity}
 use Rattle.promises.proofs.Sums.{getD-sums}
 
@@ -164,7 +167,7 @@ carried-at a x s h ls i j =
 
 pub key-equation : KeyEquation
 key-equation set f g a passes =
-    let some = key-tested-some set f g a passes in
+    let some = key-tested-some set f g a (zero-is (keyTest set f g a) passes) in
     let key = some .1 in
     let left = times (a₁ a) f in
     let right = scaled (pos (modulus - 2)) (second g) in
@@ -207,9 +210,11 @@ entries-pass limit factor place (y ∷ x) next h = rw (le-leb _ _ (h 0)) (entrie
 pub length-rules : LengthRules
 unfolding lengthRule
 length-rules s z1 z2 = (
-  λ kept. (sum-within s z1 z2 kept, first-within s z1 z2 kept, second-within s z1 z2 kept),
+  λ passes. let kept = zero-is (lengthRule s z1 z2) passes in (sum-within s z1 z2 kept, first-within s z1 z2 kept, second-within s z1 z2 kept),
   λ rules.
+      let done : lengthRule s z1 z2 ≡ Done =
       entries-pass (largestOf s) 1 0 z1 _ (λ i. omega (arith, rules .1 i))
       ∙ entries-pass (largestOf s) (2 ^ dOf s) dimension z2 _ (rules .2)
-      ∙ rw (le-leb _ _ (rules .0)),
+      ∙ rw (le-leb _ _ (rules .0)) in
+      ap numberOf done,
 )

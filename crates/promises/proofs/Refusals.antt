@@ -5,7 +5,6 @@ use mathlib.Core.List.{List, [], _∷_}
 use Prim.Native.Nat.{ℕ, suc, _*_, _≤_}
 use native.Mathlib.Omega.{arith}
 use borrow.Author.Needs.{needs}
-use borrow.Author.Tests.{eq-eqb}
 use lib.Dec.{leb}
 use lib.IntN.{ℤ, natAbs}
 use lib.ListN.{length}
@@ -16,14 +15,13 @@ use Rattle.sets.specs.declared.Asked.the-variants.{Known, Unknown}
 use Rattle.answers.specs.declared.Outcome.{Outcome}
 use Rattle.answers.specs.declared.Outcome.the-variants.{Done, DrawRejected, WordMissing, EntryBeyond, SumAbove}
 use Rattle.answers.specs.Outcomes.{numberOf, forSet, Filled, filled}
-use Rattle.answers.proofs.Calls.{done-is}
 use Rattle.limits.specs.LengthRule.{entries, lengthRule}
 use Rattle.keys.specs.Key.{properKey}
 use Rattle.commitment.specs.Commitment.{commitment}
 use Rattle.draw.specs.declared.Ending.{Ending}
 use Rattle.draw.specs.declared.Ending.the-variants.{Accepted, Rejected, OutOfWords}
 use Rattle.draw.specs.Draw.{afterWalk}
-use Rattle.signing.specs.Response.{Responded, responded, drawn, signedWith, tested, responseFor, response}
+use Rattle.signing.specs.Response.{Lent, Responded, responded, drawn, responseFor, response}
 use Rattle.checking.specs.Checking.{rebuild}
 use Rattle.record_forms.specs.declared.Header.{Header}
 use Rattle.record_forms.specs.declared.Header.the-variants.{States, Malformed}
@@ -31,9 +29,10 @@ use Rattle.record_forms.specs.Headers.{opened}
 use Rattle.records.specs.Writer.{writingFor, writingOf}
 use Rattle.records.specs.Reader.{Found, found, readingFor, readingOf}
 use Rattle.promises.specs.Demands.{OnlyDone, CommitmentKeeps, RebuildKeeps, ResponseKeeps, WriterKeeps, ReaderKeeps, ResponseCounts}
+use Rattle.promises.proofs.Passed.{zero-is}
 
 pub only-done : OnlyDone
-only-done = (refl, λ o e. done-is o (eq-eqb (numberOf o) 0 e))
+only-done = (refl, zero-is)
 
 -- ---- what holds of every way through a chain holds of its answer
 record Holds {A : Type 0} (P : A → Type 0) (x : A) : Type 0 where
@@ -95,19 +94,12 @@ rebuild-holds set a z1 z2 l out = search (ways, ends) depth 10
 pub rebuild-keeps : RebuildKeeps
 rebuild-keeps set a z1 z2 l out o after e = subst (Keeps filledAnswer filledLeft out) e (rebuild-holds set a z1 z2 l out .is)
 
--- the writer's output
-abbrev writtenAnswer : Filled → Outcome
-writtenAnswer (filled o after) = o
-
-abbrev writtenLeft : Filled → List ℕ
-writtenLeft (filled o after) = after
-
-writer-holds : (set : ℕ) (z1 z2 : List ℤ) (l out : List ℕ) → Holds (Keeps writtenAnswer writtenLeft out) (writingOf set z1 z2 l out)
+writer-holds : (set : ℕ) (z1 z2 : List ℤ) (l out : List ℕ) → Holds (Keeps filledAnswer filledLeft out) (writingOf set z1 z2 l out)
 unfolding writingOf writingFor
 writer-holds set z1 z2 l out = search (ways, ends) depth 10
 
 pub writer-keeps : WriterKeeps
-writer-keeps set z1 z2 l out o after e = subst (Keeps writtenAnswer writtenLeft out) e (writer-holds set z1 z2 l out .is)
+writer-keeps set z1 z2 l out o after e = subst (Keeps filledAnswer filledLeft out) e (writer-holds set z1 z2 l out .is)
 
 -- the reader's set and its three buffers
 abbrev foundAnswer : Found → Outcome
@@ -187,20 +179,19 @@ module _ (lent : ℕ) (z1 z2 : List ℤ) where
   counts-late count o h =
       record { is = (λ m n. absurd (omega (arith, h .is m)), λ e. absurd (omega (arith, h .is (omega arith)))) }
 
-module _ (set : ℕ) (f g : List ℤ) (a : List ℕ) (y1 y2 : List ℤ) (l : List ℕ) (bit : Bool) (thresholds words : List ℕ) (out1 out2 : List ℤ) where
-  response-holds : Holds (Keeps respondedAnswer respondedLeft (out1, out2)) (response set f g a y1 y2 l bit thresholds words out1 out2)
-  unfolding response responseFor tested signedWith drawn
-  response-holds = search (ways, ends) depth 10
+module _ (set : ℕ) (c : Lent) where
+  response-holds : Holds (Keeps respondedAnswer respondedLeft (c .z1, c .z2)) (response set c)
+  unfolding response responseFor drawn
+  response-holds = search (ways, ends) depth 12
 
-  count-holds : Holds (Counts (length words)) (response set f g a y1 y2 l bit thresholds words out1 out2)
-  unfolding response responseFor tested signedWith drawn
+  count-holds : Holds (Counts (length (c .words))) (response set c)
+  unfolding response responseFor drawn
   count-holds = search (ways, early, early-key, counts-early, late-rule, late-done, counts-late, counts-rejected, counts-short) depth 12
 
 pub response-keeps : ResponseKeeps
-response-keeps set f g a y1 y2 l bit thresholds words out1 out2 o count after1 after2 e n =
-    let same = subst (Keeps respondedAnswer respondedLeft (out1, out2)) e (response-holds set f g a y1 y2 l bit thresholds words out1 out2 .is) n in
+response-keeps set c o count after1 after2 e n =
+    let same = subst (Keeps respondedAnswer respondedLeft (c .z1, c .z2)) e (response-holds set c .is) n in
     (ap (λ (x : List ℤ × List ℤ). x .0) same, ap (λ (x : List ℤ × List ℤ). x .1) same)
 
 pub response-counts : ResponseCounts
-response-counts set f g a y1 y2 l bit thresholds words out1 out2 o count after1 after2 e =
-    subst (Counts (length words)) e (count-holds set f g a y1 y2 l bit thresholds words out1 out2 .is)
+response-counts set c o count after1 after2 e = subst (Counts (length (c .words))) e (count-holds set c .is)

@@ -28,7 +28,7 @@ use Rattle.signing.specs.Response.{masked}
 use Rattle.signing.proofs.Numbers.{first-mask, second-mask, sizes-z, trial-fits}
 use Rattle.signing.proofs.Ways.{short-key, chosen-sized, chosen-short, chosen-within}
 use Rattle.promises.specs.Demands.{TrialsFit}
-use Rattle.promises.proofs.Keys.{Tested, key-tested, key-tested-for, key-sized}
+use Rattle.promises.proofs.Keys.{Tested, key-sized, passing}
 
 module _ (s : Set) (f g : List ℤ) (a l : List ℕ) (key : Tested s f g a) (proper : properList s l ≡ true) where
   abbrev v : Pair
@@ -69,6 +69,10 @@ module _ (s : Set) (f g : List ℤ) (a l : List ℕ) (key : Tested s f g a) (pro
 
 pub trials-fit : TrialsFit
 unfolding masked
-trials-fit set s f g a y1 y2 l bit known passes l1 l2 masks proper =
-    let key = key-tested s f g a (key-tested-for set s f g a known passes) in
-    (short s f g a l key proper, omega (arith, first-trial s), second-fits s f g a l key proper y1 y2 bit l1 l2 masks)
+trials-fit set s c h =
+    let key = passing set s c (h .asked) (h .key) in
+    let l = c .list in (
+      short s (c .f) (c .g) (c .a) l key (h .list),
+      omega (arith, first-trial s),
+      second-fits s (c .f) (c .g) (c .a) l key (h .list) (c .y1) (c .y2) (c .sign) (h .long-y1) (h .long-y2) (h .masks),
+    )

@@ -13,7 +13,7 @@ use Rattle.laws.specs.Integers.{residue}
 use Rattle.laws.specs.Lists.{zipWith, tabulate}
 use Rattle.sets.specs.declared.Set.{Set}
 use Rattle.sets.specs.Numbers.{dimension, modulus, twiceModulus, dOf, largestOf, boundSquaredOf}
-use Rattle.answers.specs.declared.Outcome.the-variants.{Done}
+use Rattle.answers.specs.Outcomes.{numberOf}
 use Rattle.polynomials.specs.Product.{times, shift, one}
 use Rattle.vectors.specs.Vectors.{squares, inner}
 use Rattle.vectors.specs.Places.{listed}
@@ -55,7 +55,7 @@ a₁ a = map (λ x. pos (2 * x)) a
 abbrev pub KeyEquation : Type 0
 KeyEquation =
     (set : ℕ) (f g : List ℤ) (a : List ℕ)
-    → keyTest set f g a ≡ Done
+    → numberOf (keyTest set f g a) ≡ 0
     → modulo2q (vectorSum (times (a₁ a) f) (scaled (pos (modulus - 2)) (second g))) ≡ modulo2q (scaled (pos modulus) one)
 
 -- Algorithm 2, line 2: u = ζ a₁ y₁ + y₂ modulo 2q
@@ -89,7 +89,7 @@ SignBit =
 abbrev pub LengthRules : Type 0
 LengthRules =
     (s : Set) (z1 z2 : List ℤ)
-    → lengthRule s z1 z2 ≡ Done
+    → numberOf (lengthRule s z1 z2) ≡ 0
     ↔ (squares z1 + 4 ^ dOf s * squares z2 ≤ boundSquaredOf s)
     × ((i : ℕ) → natAbs (getD z1 i (pos 0)) ≤ largestOf s)
     × ((i : ℕ) → 2 ^ dOf s * natAbs (getD z2 i (pos 0)) ≤ largestOf s)
