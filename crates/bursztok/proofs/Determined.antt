@@ -45,9 +45,9 @@ commitment-determined κs a r r′ s s′ p q = one-left _ p q
 
 -- the answer with the count of words, and both output vectors
 pub respond-determined : (κs : Lfts 10) (a : _) (r r′ : _) (s s′ : _) → respond.Post κs a r s → respond.Post κs a r′ s′
-    → (r ≡ r′)
-    × (now (s .1 .1 .1 .1 .1 .1 .1 .1 .1 .1 .0) ≡ now (s′ .1 .1 .1 .1 .1 .1 .1 .1 .1 .1 .0))
-    × (now (s .1 .1 .1 .1 .1 .1 .1 .1 .1 .1 .1 .0) ≡ now (s′ .1 .1 .1 .1 .1 .1 .1 .1 .1 .1 .1 .0))
+    → let (set, f, g, key, y1, y2, list, sign, thresholds, words, z1, z2, _) = s in
+    let (set′, f′, g′, key′, y1′, y2′, list′, sign′, thresholds′, words′, z1′, z2′, _) = s′ in
+    (r ≡ r′) × (now z1 ≡ now z1′) × (now z2 ≡ now z2′)
 respond-determined κs a r r′ s s′ p q = one-replied _ p q
 
 pub rebuild-determined : (κs : Lfts 5) (a : _) (r r′ : _) (s s′ : _) → rebuild.Post κs a r s → rebuild.Post κs a r′ s′

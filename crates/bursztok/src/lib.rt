@@ -3,7 +3,7 @@ ghost use mathlib.Core.Path.{_≡_};
 ghost use Rattle.keys.specs.Key.{keyTest};
 ghost use Rattle.commitment.specs.Commitment.{commitment};
 ghost use Rattle.signing.specs.Response.{response};
-ghost use Rattle.checking.specs.Checking.{rebuild, comparison};
+ghost use Rattle.checking.specs.Checking.{claim, rebuild, comparison};
 ghost use Rattle.record_forms.specs.Sections.{z1Section, z2Section, listSection};
 ghost use Rattle.records.specs.Writer.{writingOf};
 ghost use Rattle.records.specs.Reader.{readingOf};
@@ -79,8 +79,19 @@ pub extern "C" fn bursztok_respond(
     z2: &mut [i8],
 ) -> Response
     ensures { λ r. ⌜ replied r (now (z1 .exit)) (now (z2 .exit))
-        ≡ repliedBy (response set (now (f .entry)) (now (g .entry)) (now (a .entry)) (now (y1 .entry)) (now (y2 .entry)) (now (list .entry)) sign
-        (now (thresholds .entry)) (now (words .entry)) (now (z1 .entry)) (now (z2 .entry))) ⌝ }
+        ≡ repliedBy (response set (record {
+          f = now (f .entry);
+          g = now (g .entry);
+          a = now (a .entry);
+          y1 = now (y1 .entry);
+          y2 = now (y2 .entry);
+          list = now (list .entry);
+          sign = sign;
+          thresholds = now (thresholds .entry);
+          words = now (words .entry);
+          z1 = now (z1 .entry);
+          z2 = now (z2 .entry);
+        })) ⌝ }
 {
     respond_answer(signing::respond(set, f, g, a, y1, y2, list, sign, thresholds, words, z1, z2))
 }
@@ -94,7 +105,7 @@ pub extern "C" fn bursztok_rebuild(
     list: &[u16],
     out: &mut [u16],
 ) -> Answer
-    ensures { λ r. ⌜ left r (now (out .exit)) ≡ leftBy (rebuild set (now (a .entry)) (now (z1 .entry)) (now (z2 .entry)) (now (list .entry)) (now (out .entry))) ⌝ }
+    ensures { λ r. ⌜ left r (now (out .exit)) ≡ leftBy (rebuild set (now (a .entry)) (claim (now (z1 .entry)) (now (z2 .entry)) (now (list .entry))) (now (out .entry))) ⌝ }
 {
     answered(checking::rebuild(set, a, z1, z2, list, out))
 }

@@ -37,7 +37,7 @@ use Rattle.choices.proofs.Parity.{choices-odd, choices-even}
 use Rattle.choices.proofs.Product.{choices-carries}
 use Rattle.signing.specs.Response.{Lent, secret, responded, masked, daggers, responseFor, response}
 use Rattle.signing.proofs.Ways.{are-sized}
-use Rattle.checking.specs.Checking.{marks, rebuilt, rebuild, comparison}
+use Rattle.checking.specs.Checking.{claim, marks, rebuilt, rebuild, comparison}
 use Rattle.checking.proofs.Marks.{length-marks, getD-marks}
 use Rattle.promises.specs.Demands.{ResponseLength, GivenOutIsAccepted, ReachesTheDraw, Demand3}
 use Rattle.promises.proofs.Passed.{zero-is}
@@ -129,7 +129,7 @@ module _ (s : Set) (c : Lent) (before : Admitted s c) where
       ∙ restored-dagger s (getD u i 0) (getD (z .second) i (pos 0))
 
   -- what is rebuilt from z1 and z2 dagger is what was committed to
-  pub rebuilt-committed : rebuilt s (c .a) (z .first) (daggers s u (z .second)) l ≡ committed s (c .a) (c .y1) (c .y2)
+  pub rebuilt-committed : rebuilt s (c .a) (claim (z .first) (daggers s u (z .second)) l) ≡ committed s (c .a) (c .y1) (c .y2)
   unfolding rebuilt committed
   rebuilt-committed =
       let w = sums (c .a) (z .first) (marks l) in
@@ -156,7 +156,7 @@ module _ (set : ℕ) (s : Set) (known : askedOf set ≡ Known s) (a : List ℕ) 
 
   -- the rebuild, where nothing is to be refused
   rebuild-done : (z1 z2 : List ℤ) (l out : List ℕ) → length z1 ≡ dimension → length z2 ≡ dimension → length out ≡ dimension
-      → properList s l ≡ true → lengthRule s z1 z2 ≡ Done → rebuild set a z1 z2 l out ≡ filled Done (rebuilt s a z1 z2 l)
+      → properList s l ≡ true → lengthRule s z1 z2 ≡ Done → rebuild set a (claim z1 z2 l) out ≡ filled Done (rebuilt s a (claim z1 z2 l))
   unfolding rebuild
   rebuild-done z1 z2 l out lz1 lz2 lo proper rule =
       rw (known, sized-yes a la, sized-yes z1 lz1, sized-yes z2 lz2, sized-yes out lo, residues, proper, rule)
@@ -179,7 +179,7 @@ given-out-is-accepted set c o count z1 z2 before old e zero lb lo =
       (
         Done,
         rebuild-done set s known (c .a) (passed .key .long-a) residues z1 z2 (c .list) old lz1 lz2 lo (passed .list) (signature .rule)
-            ∙ ap (filled Done) (ap₂ (λ x y. rebuilt s (c .a) x y (c .list)) (signature .first) (signature .dagger) ∙ rebuilt-committed s c passed),
+            ∙ ap (filled Done) (ap₂ (λ x y. rebuilt s (c .a) (claim x y (c .list))) (signature .first) (signature .dagger) ∙ rebuilt-committed s c passed),
         refl,
       ),
     )

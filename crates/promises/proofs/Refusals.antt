@@ -22,7 +22,7 @@ use Rattle.draw.specs.declared.Ending.{Ending}
 use Rattle.draw.specs.declared.Ending.the-variants.{Accepted, Rejected, OutOfWords}
 use Rattle.draw.specs.Draw.{afterWalk}
 use Rattle.signing.specs.Response.{Lent, Responded, responded, drawn, responseFor, response}
-use Rattle.checking.specs.Checking.{rebuild}
+use Rattle.checking.specs.Checking.{Claim, rebuild}
 use Rattle.record_forms.specs.declared.Header.{Header}
 use Rattle.record_forms.specs.declared.Header.the-variants.{States, Malformed}
 use Rattle.record_forms.specs.Headers.{opened}
@@ -87,12 +87,12 @@ commitment-holds set a y1 y2 out = search (ways, ends)
 pub commitment-keeps : CommitmentKeeps
 commitment-keeps set a y1 y2 out o after e = subst (Keeps filledAnswer filledLeft out) e (commitment-holds set a y1 y2 out .is)
 
-rebuild-holds : (set : ℕ) (a : List ℕ) (z1 z2 : List ℤ) (l out : List ℕ) → Holds (Keeps filledAnswer filledLeft out) (rebuild set a z1 z2 l out)
+rebuild-holds : (set : ℕ) (a : List ℕ) (c : Claim) (out : List ℕ) → Holds (Keeps filledAnswer filledLeft out) (rebuild set a c out)
 unfolding rebuild
-rebuild-holds set a z1 z2 l out = search (ways, ends) depth 10
+rebuild-holds set a c out = search (ways, ends) depth 10
 
 pub rebuild-keeps : RebuildKeeps
-rebuild-keeps set a z1 z2 l out o after e = subst (Keeps filledAnswer filledLeft out) e (rebuild-holds set a z1 z2 l out .is)
+rebuild-keeps set a c out o after e = subst (Keeps filledAnswer filledLeft out) e (rebuild-holds set a c out .is)
 
 writer-holds : (set : ℕ) (z1 z2 : List ℤ) (l out : List ℕ) → Holds (Keeps filledAnswer filledLeft out) (writingOf set z1 z2 l out)
 unfolding writingOf writingFor

@@ -18,7 +18,7 @@ use Rattle.keys.specs.Key.{keyTest}
 use Rattle.commitment.specs.Commitment.{areMasks, committed, commitment}
 use Rattle.choices.specs.Choices.{choices}
 use Rattle.signing.specs.Response.{Lent, secret, drawing, responded, masked, firstTrial, secondTrial, drawn, response}
-use Rattle.checking.specs.Checking.{rebuild, comparison}
+use Rattle.checking.specs.Checking.{Claim, claim, rebuild, comparison}
 use Rattle.records.specs.Writer.{writingOf}
 use Rattle.records.specs.Reader.{found, readingOf}
 
@@ -38,8 +38,8 @@ CommitmentKeeps =
 -- the rebuild's vector
 abbrev pub RebuildKeeps : Type 0
 RebuildKeeps =
-    (set : ℕ) (a : List ℕ) (z1 z2 : List ℤ) (l out : List ℕ) (o : Outcome) (after : List ℕ)
-    → rebuild set a z1 z2 l out ≡ filled o after
+    (set : ℕ) (a : List ℕ) (c : Claim) (out : List ℕ) (o : Outcome) (after : List ℕ)
+    → rebuild set a c out ≡ filled o after
     → (numberOf o ≡ 0 → ⊥)
     → after ≡ out
 
@@ -117,7 +117,7 @@ GivenOutIsAccepted =
     → length before ≡ dimension → length old ≡ dimension
     → (s : Set) × (askedOf set ≡ Known s)
     × Fills (commitment set (c .a) (c .y1) (c .y2) before) (committed s (c .a) (c .y1) (c .y2))
-    × Fills (rebuild set (c .a) z1 z2 (c .list) old) (committed s (c .a) (c .y1) (c .y2))
+    × Fills (rebuild set (c .a) (claim z1 z2 (c .list)) old) (committed s (c .a) (c .y1) (c .y2))
 
 -- The numbers of the draw's two trials are those that 01 writes, with nothing lost: v is no longer, squared, than kappa K, so that the first is a difference of
 -- whole numbers, and neither has a binary place above 30, so that a trial looks at all of it.
@@ -149,4 +149,4 @@ Demand3 =
     → numberOf o ≡ 0
     → (numberOf (comparison set (c .list) (c .list)) ≡ 0)
     × Fills (commitment set (c .a) (c .y1) (c .y2) before) (committed s (c .a) (c .y1) (c .y2))
-    × Fills (rebuild set (c .a) z1 z2 (c .list) old) (committed s (c .a) (c .y1) (c .y2)))
+    × Fills (rebuild set (c .a) (claim z1 z2 (c .list)) old) (committed s (c .a) (c .y1) (c .y2)))
