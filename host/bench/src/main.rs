@@ -1,12 +1,15 @@
 //! Measures the library's calls beside the second program's, in one run, as ratios; and counts
 //! the library's instructions with callgrind.
 
+mod bars;
+mod callgrind;
 mod work;
 
 use second::console::arguments;
 use second::testing::calls::Call;
 use second::{say, warn, Set};
-use std::process::{Command, ExitCode};
+use std::path::PathBuf;
+use std::process::ExitCode;
 use std::time::{Duration, Instant};
 use work::{Side, Work, MEASURED};
 
@@ -17,6 +20,9 @@ bursztok-bench [--set N] [--milliseconds N]
 bursztok-bench --instructions [--set N] [--symbol NAME]
       Instructions per call, counted by callgrind (valgrind must be there) inside the library's
       exported call, or inside the function NAME wherever the call reaches it.
+bursztok-bench --bars PROGRAMS
+      Instructions of the calls and of the programs ring_bench and choices_bench in the folder
+      PROGRAMS, beside their bars and a peer's figures.
 bursztok-bench --run CALL --times N [--set N] [--second]
       Runs one call so many times and measures nothing; for callgrind.
 
@@ -24,7 +30,7 @@ CALL is key-test, commitment, response, rebuild, write or read. Each works on on
 key with the published counts; buffers are not cleared in between. The default of --milliseconds
 is 200 for each call and side.
 
-Exit status: 0 done, 1 no instructions counted, 2 bad usage.";
+Exit status: 0 done, 1 no instructions counted or a bar passed by more than 3 %, 2 bad usage.";
 
 /// What all inputs are made from.
 const SEED: u64 = 1;
@@ -38,6 +44,7 @@ struct Options {
     set: Option<Set>,
     milliseconds: Option<u64>,
     instructions: bool,
+    bars: Option<PathBuf>,
     symbol: Option<String>,
     run: Option<Call>,
     times: Option<u64>,
@@ -81,6 +88,7 @@ fn parse(words: &[String]) -> Result<Options, String> {
             }
             "--milliseconds" => options.milliseconds = Some(number(value()?)?),
             "--instructions" => options.instructions = true,
+            "--bars" => options.bars = Some(PathBuf::from(value()?)),
             "--symbol" => options.symbol = Some(value()?.clone()),
             "--run" => {
                 let word = value()?;
@@ -117,6 +125,12 @@ fn run(options: &Options) -> ExitCode {
             work.run(side, call);
         }
         return ExitCode::SUCCESS;
+    }
+    if let Some(programs) = &options.bars {
+        if EMULATED {
+            return nothing_counted();
+        }
+        return bars::hold(programs);
     }
     if options.instructions {
         return count_instructions(&sets, options.symbol.as_deref());
@@ -187,8 +201,7 @@ fn median(mut times: Vec<f64>) -> f64 {
 /// Runs this program under callgrind for every call, collecting inside one symbol only.
 fn count_instructions(sets: &[Set], symbol: Option<&str>) -> ExitCode {
     if EMULATED {
-        warn!("bench: the library runs under an emulator here; instructions need x86-64");
-        return ExitCode::from(1);
+        return nothing_counted();
     }
     say!(
         "instructions a call, inside {}",
@@ -197,7 +210,7 @@ fn count_instructions(sets: &[Set], symbol: Option<&str>) -> ExitCode {
     let mut entered = false;
     for set in sets {
         for (_, name, exported) in MEASURED {
-            match instructions(*set, name, symbol.unwrap_or(exported)) {
+            match callgrind::inside(*set, name, symbol.unwrap_or(exported)) {
                 Ok(count) => {
                     entered |= count > 0;
                     say!("  set {}  {name:<11} {count:>12}", set.number());
@@ -216,28 +229,9 @@ fn count_instructions(sets: &[Set], symbol: Option<&str>) -> ExitCode {
     ExitCode::SUCCESS
 }
 
-/// Instructions a call, 0 where it never enters the symbol.
-fn instructions(set: Set, name: &str, symbol: &str) -> Result<u64, String> {
-    const TIMES: u64 = 4;
-    let this = std::env::current_exe().map_err(|error| error.to_string())?;
-    let output = Command::new("valgrind")
-        .args(["--tool=callgrind", "--callgrind-out-file=/dev/null"])
-        .arg(format!("--toggle-collect={symbol}"))
-        .arg(this)
-        .args(["--run", name, "--times", &TIMES.to_string()])
-        .args(["--set", &set.number().to_string()])
-        .output()
-        .map_err(|error| format!("valgrind cannot be run ({error}); no instructions counted"))?;
-    let said = String::from_utf8_lossy(&output.stderr);
-    let collected = said
-        .lines()
-        .filter_map(|line| line.split("Collected :").nth(1))
-        .next_back()
-        .and_then(|count| count.trim().parse::<u64>().ok());
-    match collected {
-        Some(count) if output.status.success() => Ok(count / TIMES),
-        _ => Err(format!("valgrind failed:\n{said}")),
-    }
+fn nothing_counted() -> ExitCode {
+    warn!("bench: the library runs under an emulator here; instructions need x86-64");
+    ExitCode::from(1)
 }
 
 #[cfg(test)]
