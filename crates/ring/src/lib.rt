@@ -8,10 +8,10 @@ ghost use lib.ListN.{length, getD, take, drop};
 ghost use Rattle.laws.specs.Integers.{residue};
 ghost use Rattle.laws.specs.Lists.{zipWith};
 ghost use Rattle.sets.specs.Numbers.{dimension, modulus};
-ghost use Rattle.polynomials.specs.Field.{add, mul};
+ghost use Rattle.polynomials.specs.Field.{add, mul, productModulo};
 ghost use Rattle.polynomials.specs.Product.{product};
 ghost use Rattle.ring.specs.Powers.{Powers};
-ghost use Rattle.ring.specs.Transform.{sub, Within, productModulo, low, high, size, remainders, spectrumOf, joined, convolution};
+ghost use Rattle.ring.specs.Transform.{sub, Within, low, high, size, remainders, spectrumOf, joined, convolution};
 use sets::Set;
 use table::POWERS;
 

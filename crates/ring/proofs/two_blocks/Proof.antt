@@ -8,8 +8,9 @@ use lib.ListN.{length, take, drop, getD, length-drop}
 use lib.Seq.{length-take-le}
 use borrow.Rule.Slice.PartMut.{putMid}
 use Rattle.sets.specs.Numbers.{modulus}
+use Rattle.polynomials.specs.Field.{productModulo}
 use Rattle.ring.specs.Powers.{power}
-use Rattle.ring.specs.Transform.{Within, productModulo, size, joined, convolution}
+use Rattle.ring.specs.Transform.{Within, size, joined, convolution}
 use Rattle.ring.proofs.Zips.{within-of, within-append, within-take, within-drop}
 use Rattle.ring.proofs.Products.{within-product}
 use Rattle.ring.proofs.Halves.{rest-lent, still-two, second-half, both-back, back-two}
