@@ -125,7 +125,7 @@ fn rescale(s: &mut [u16])
 
 // ---- the transform
 
-// s, of size k, taken apart into its remainders of 8 coefficients, modulo x^(size k) - 49^e. The last split is of 16 coefficients, and calls itself no more.
+// s, of size k, taken apart into its remainders of 8 coefficients, modulo x^(size k) - 49^e. Of 16 coefficients one split is all.
 fn decompose(s: &mut [u16], k: usize, e: usize, powers: &[u16])
     requires { ⌜ (0 < k) × (length (now s) ≡ size k) × (e < dimension + dimension) × Powers (now powers) × Within (modulus - 1) (now s) ⌝ }
     ensures { λ _. ⌜ now (s .exit) ≡ remainders k e (now (s .entry)) ⌝ }
