@@ -84,7 +84,13 @@ module _ (f g : ℕ → ℕ → ℕ) (h : ℕ) (l : List ℕ) (two : length l �
         ∙ ap₂ _++_ (L.finish (take h l) (made f h l) as-first (so .first) (omega (arith, first-long)))
         (L.finish (drop h l) (made g h l) as-second (so .second) (omega (arith, second-long)))
 
--- ---- the halves of s, lent one after the other, come back as m and n
+-- ---- halves that are lent
+
+-- the second half of a vector that is read, as it is lent
+pub rest-lent : (h : ℕ) (l : List ℕ) → take (length l - h) (drop h l) ≡ drop h l
+rest-lent h l = take-all (length l - h) (drop h l) (omega (arith, length-drop h l))
+
+-- the halves of s, lent one after the other, come back as m and n
 module _ (h : ℕ) (s m : List ℕ) (two : length s ≡ h + h) (lm : length m ≡ length (take h s)) where
   as-long : length m ≡ h
   as-long = lm ∙ length-take-le h s (omega arith)
@@ -97,9 +103,7 @@ module _ (h : ℕ) (s m : List ℕ) (two : length s ≡ h + h) (lm : length m �
 
   -- the second half, as it is lent
   pub second-half : take (length (m ++ drop h s) - h) (drop h (m ++ drop h s)) ≡ drop h s
-  second-half =
-      let e = drop-at m (drop h s) h as-long in
-      take-all (length (m ++ drop h s) - h) (drop h (m ++ drop h s)) (omega (arith, still-two, length-drop h (m ++ drop h s))) ∙ e
+  second-half = rest-lent h (m ++ drop h s) ∙ drop-at m (drop h s) h as-long
 
   module _ (n : List ℕ) (ln : length n ≡ length (take (length (m ++ drop h s) - h) (drop h (m ++ drop h s)))) where
     -- the whole, once both are back
