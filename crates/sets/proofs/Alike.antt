@@ -49,9 +49,6 @@ p-positive = each _ (lit< tt) (lit< tt) (lit< tt) (lit< tt)
 pub p-small : (s : Set) → pOf s ≤ 96
 p-small = each _ (lit≤ tt) (lit≤ tt) (lit≤ tt) (lit≤ tt)
 
-pub d-at-least-eight : (s : Set) → 8 ≤ dOf s
-d-at-least-eight = each _ (lit≤ tt) (lit≤ tt) (lit≤ tt) (lit≤ tt)
-
 pub d-small : (s : Set) → dOf s ≤ 10
 d-small = each _ (lit≤ tt) (lit≤ tt) (lit≤ tt) (lit≤ tt)
 

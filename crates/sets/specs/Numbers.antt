@@ -117,7 +117,7 @@ totalOf s = listOffset + 2 * kappaOf s
 
 -- the largest that a number of the sets is: no set has more, and one has as many
 abbrev pub Largest : (Set → ℕ) → ℕ → Type 0
-Largest numberOf limit = ((s : Set) → numberOf s ≤ limit) × ((s : Set) × (numberOf s ≡ limit))
+Largest number limit = ((s : Set) → number s ≤ limit) × ((s : Set) × (number s ≡ limit))
 
 -- ---- numbers for sets
 
