@@ -1,5 +1,5 @@
 -- A signature that was given out is accepted, the writer and the reader included. Assumes nothing.
-use mathlib.Core.Path.{_≡_, sym, ap, subst, _∙_}
+use mathlib.Core.Path.{_≡_, refl, sym, ap, subst, _∙_}
 use mathlib.Core.Bool.{Bool, true, false, not}
 use mathlib.Core.List.{List, _++_}
 use Prim.Native.Nat.{ℕ, zero, _≤_}
@@ -26,7 +26,7 @@ use Rattle.checking.specs.Checking.{rebuild}
 use Rattle.records.specs.Signatures.{signature, recordOf, refusalOf}
 use Rattle.records.specs.Writer.{writingFor, writingOf}
 use Rattle.records.specs.Reader.{found, readingOf}
-use Rattle.records.proofs.RoundTrip.{written-reads}
+use Rattle.records.proofs.RoundTrip.{written-reads, read-done}
 use Rattle.promises.proofs.Signatures.{given-out}
 use Rattle.promises.proofs.Agreement.{z-first, daggers-512, given-out-is-accepted}
 use Rattle.agreement.specs.Accepted.{Rebuilds, Readable, Writable, Accepted}
@@ -100,7 +100,7 @@ record-long out total s e f = sym (length-take-le total out (total-room (length 
 module _ (set : ℕ) (s : Set) (a : List ℕ) (z1 z2 : List ℤ) (l rounded : List ℕ) (w : Writable set s a z1 z2 l rounded) where
   readable : (out after : List ℕ) → writingOf set z1 z2 l out ≡ filled Done after → Readable s a (take (totalOf s) after) rounded
   readable out after e =
-      let back = written-reads set z1 z2 l out after e in
+      let back = written-reads set z1 z2 l out Done after refl e in
       let asked = back .asked in
       let known = w .asked in
       let own : back .s ≡ s = cc in
@@ -110,7 +110,7 @@ module _ (set : ℕ) (s : Set) (a : List ℕ) (z1 z2 : List ℤ) (l rounded : Li
         l = l;
         long = w .long;
         reads = λ b1 b2 b3 l1 l2 l3.
-            subst (λ (t : Set). readingOf (take (totalOf t) after) b1 b2 b3 ≡ found Done (setNumberOf t) z1 z2 (l ++ drop (kappaOf t) b3)) own (back .reads b1 b2 b3 l1 l2 l3);
+            subst (λ (t : Set). readingOf (take (totalOf t) after) b1 b2 b3 ≡ found Done (setNumberOf t) z1 z2 (l ++ drop (kappaOf t) b3)) own (read-done (back .reads b1 b2 b3 l1 l2 l3));
         rebuilds = w .rebuilds;
       }
 

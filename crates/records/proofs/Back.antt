@@ -8,11 +8,10 @@ use native.Mathlib.Omega.{arith}
 use lib.Dec.{lit<, lit≤}
 use lib.IntN.{ℤ, pos, natAbs}
 use lib.ListN.{length, take, drop, getD, length-append, length-drop}
-use lib.Pow.{pow-mono}
 use lib.Seq.{take-at, take-all, drop-at, getD-drop, length-take-le}
 use Rattle.sets.specs.declared.Set.{Set}
-use Rattle.sets.specs.Numbers.{dimension, kappaOf, totalOf}
-use Rattle.sets.proofs.Alike.{d-positive, largest-small}
+use Rattle.sets.specs.Numbers.{dimension, z1Offset, z2Offset, listOffset, kappaOf, totalOf}
+use Rattle.sets.proofs.Alike.{step-at-least-256, largest-small}
 use Rattle.answers.specs.declared.Outcome.the-variants.{Done, ImproperList}
 use Rattle.answers.specs.Outcomes.{isDone}
 use Rattle.answers.proofs.Calls.{done-is, done-next}
@@ -21,7 +20,7 @@ use Rattle.vectors.proofs.Rising.{proper-place}
 use Rattle.limits.specs.LengthRule.{lengthRule}
 use Rattle.limits.proofs.Rule.{first-within, second-within}
 use Rattle.byte_codes.specs.Bytes.{unpacked, fromComplement}
-use Rattle.record_forms.specs.Headers.{z1Offset, z2Offset, listOffset, headerOf, part}
+use Rattle.record_forms.specs.Headers.{headerOf, part}
 use Rattle.byte_codes.proofs.Sections.{unpacked-packed, packed-unpacked, take-small}
 use Rattle.byte_codes.proofs.WholeNumbers.{numbers-back, bytes-back}
 use Rattle.record_forms.proofs.Agreement.{take-further}
@@ -79,7 +78,7 @@ module _ (g : Signature) (so : Sized g) where
 
     z2-small : (k : ℕ) → 2 * natAbs (getD (g .z2) k (pos 0)) < 2 ^ 8
     z2-small k =
-        omega (arith, second-within (g .set) (g .z1) (g .z2) rule k, largest-small (g .set), mul-le-mul (pow-mono (d-positive (g .set))) (le-refl (natAbs (getD (g .z2) k (pos 0)))))
+        omega (arith, second-within (g .set) (g .z1) (g .z2) rule k, largest-small (g .set), mul-le-mul (step-at-least-256 (g .set)) (le-refl (natAbs (getD (g .z2) k (pos 0)))))
 
     list-small : (k : ℕ) → getD (g .list) k 0 < 256 ^ 2
     list-small = anywhere (g .list) (256 ^ 2) (lit< tt) (λ k h. omega (arith, proper-place (g .set) (g .list) (refusal-proper g kept) k h))

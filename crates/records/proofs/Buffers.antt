@@ -9,7 +9,7 @@ use lib.IntN.{ℤ}
 use lib.ListN.{length, take, drop, length-drop}
 use lib.Seq.{take-at, length-take-le}
 use Rattle.sets.specs.declared.Set.{Set}
-use Rattle.sets.specs.Numbers.{kappaOf, totalOf, listLimit}
+use Rattle.sets.specs.Numbers.{listLimit, listOffset, kappaOf, totalOf}
 use Rattle.sets.proofs.Alike.{kappa-within}
 use Rattle.answers.specs.declared.Outcome.{Outcome}
 use Rattle.answers.specs.declared.Outcome.the-variants.{ImproperList}
@@ -21,7 +21,7 @@ use Rattle.limits.specs.LengthRule.{lengthRule}
 use Rattle.record_forms.specs.declared.Header.{Header}
 use Rattle.record_forms.specs.declared.Header.the-variants.{States}
 use Rattle.byte_codes.specs.Bytes.{unpacked}
-use Rattle.record_forms.specs.Headers.{listOffset, part, headerIn}
+use Rattle.record_forms.specs.Headers.{part, headerIn}
 use Rattle.byte_codes.proofs.Sections.{length-unpacked}
 use Rattle.record_forms.proofs.Stated.{stated}
 use Rattle.records.specs.Signatures.{Signature, signature, signatureIn, refusalOf}

@@ -1,5 +1,5 @@
 -- Laws of the records: what the calls ask and leave (`Buffers`), the record of a signature piece by piece (`Forms`), there and back (`Back`).
--- The promises: `RoundTrip`, `Determined`.
+-- The promises: `RoundTrip`, `Determined`; `RoundTrip` over the reader's own contract is in read/Proof/Lent.antt, since only the files there can name a call's entry.
 pub mod Buffers
 pub mod Forms
 pub mod Back

@@ -4,13 +4,13 @@ use Prim.Native.Nat.{ℕ}
 use lib.IntN.{ℤ}
 use Rattle.laws.specs.Refusals.{must}
 use Rattle.sets.specs.declared.Set.{Set}
-use Rattle.sets.specs.Numbers.{dimension, kappaOf, totalOf}
+use Rattle.sets.specs.Numbers.{dimension, z1Offset, z2Offset, listOffset, kappaOf, totalOf}
 use Rattle.answers.specs.declared.Outcome.{Outcome}
 use Rattle.answers.specs.declared.Outcome.the-variants.{ImproperList}
 use Rattle.vectors.specs.Places.{properList}
 use Rattle.limits.specs.LengthRule.{lengthRule}
 use Rattle.byte_codes.specs.Bytes.{packed, unpacked, complement, fromComplement}
-use Rattle.record_forms.specs.Headers.{z1Offset, z2Offset, listOffset, headerOf, part}
+use Rattle.record_forms.specs.Headers.{headerOf, part}
 
 -- z2 is z2 dagger
 pub record Signature : Type 0 where

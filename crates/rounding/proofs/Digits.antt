@@ -12,7 +12,7 @@ use Rattle.laws.proofs.Congruence.{Cong, cong-eq, cong-trans, cong-multiple, re
 use Rattle.laws.proofs.Solver.{v, k, _⊕_, _⊗_, ring}
 use Rattle.sets.specs.declared.Set.{Set}
 use Rattle.sets.specs.Numbers.{twiceModulus, dOf, pOf}
-use Rattle.sets.proofs.Alike.{spread, half-step, step-positive, p-positive, p-even}
+use Rattle.sets.proofs.Alike.{spread, half-step, step-at-least-256, p-positive, p-even}
 use Rattle.rounding.specs.Rounding.{upper, centred}
 
 pub upper-lt : (s : Set) (x : ℕ) → upper s x < pOf s
@@ -26,8 +26,8 @@ module _ (s : Set) (x : ℕ) (small : x < twiceModulus) where
 
   steps-le : steps < suc (pOf s)
   steps-le =
-      let h : 0 < 2 ^ dOf s = omega (arith, step-positive s) in
-      div-lt-iff-lt-mul h .1 (omega (arith, spread s, step-positive s, suc-mul (pOf s) (2 ^ dOf s)))
+      let h : 0 < 2 ^ dOf s = omega (arith, step-at-least-256 s) in
+      div-lt-iff-lt-mul h .1 (omega (arith, spread s, step-at-least-256 s, suc-mul (pOf s) (2 ^ dOf s)))
 
   upper-steps : upper s x ≡ steps % pOf s
   unfolding upper

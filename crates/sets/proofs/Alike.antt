@@ -9,10 +9,10 @@ use Rattle.sets.specs.declared.Set.{Set}
 use Rattle.sets.specs.declared.Set.the-variants.{I, II, III, IV}
 use Rattle.sets.specs.declared.Asked.{Asked}
 use Rattle.sets.specs.declared.Asked.the-variants.{Known, Unknown}
-use Rattle.sets.specs.Numbers.{twiceModulus, maskLimit, listLimit, recordLimit, kappaOf, dOf, pOf, largestOf, keyLimitOf, totalOf, setNumberOf, namedOf, askedOf}
+use Rattle.sets.specs.Numbers.{twiceModulus, maskLimit, listLimit, listOffset, recordLimit, Largest, kappaOf, dOf, pOf, largestOf, boundOf, boundSquaredOf, keyLimitOf, totalOf, setNumberOf, namedOf, askedOf}
 
 -- a statement about a set, from its four cases
-pub each : (P : Set → Type 0) → P I → P II → P III → P IV → (s : Set) → P s
+each : (P : Set → Type 0) → P I → P II → P III → P IV → (s : Set) → P s
 each P a b c d I = a
 each P a b c d II = b
 each P a b c d III = c
@@ -32,8 +32,8 @@ half-step = each _ refl refl refl refl
 pub step-small : (s : Set) → 2 ^ dOf s ≤ 1024
 step-small = each _ (lit≤ tt) (lit≤ tt) (lit≤ tt) (lit≤ tt)
 
-pub step-positive : (s : Set) → 256 ≤ 2 ^ dOf s
-step-positive = each _ (lit≤ tt) (lit≤ tt) (lit≤ tt) (lit≤ tt)
+pub step-at-least-256 : (s : Set) → 256 ≤ 2 ^ dOf s
+step-at-least-256 = each _ (lit≤ tt) (lit≤ tt) (lit≤ tt) (lit≤ tt)
 
 -- the square of a step, as the length rule's sum has it
 pub step-squared : (s : Set) → 2 ^ dOf s * 2 ^ dOf s ≡ 4 ^ dOf s
@@ -49,14 +49,14 @@ p-positive = each _ (lit< tt) (lit< tt) (lit< tt) (lit< tt)
 pub p-small : (s : Set) → pOf s ≤ 96
 p-small = each _ (lit≤ tt) (lit≤ tt) (lit≤ tt) (lit≤ tt)
 
-pub d-positive : (s : Set) → 8 ≤ dOf s
-d-positive = each _ (lit≤ tt) (lit≤ tt) (lit≤ tt) (lit≤ tt)
-
 pub d-small : (s : Set) → dOf s ≤ 10
 d-small = each _ (lit≤ tt) (lit≤ tt) (lit≤ tt) (lit≤ tt)
 
 pub kappa-within : (s : Set) → kappaOf s ≤ listLimit
 kappa-within = each _ (lit≤ tt) (lit≤ tt) (lit≤ tt) (lit≤ tt)
+
+pub list-limit : Largest kappaOf listLimit
+list-limit = (kappa-within, (IV, refl))
 
 pub largest-small : (s : Set) → largestOf s < 2 ^ 15
 largest-small = each _ (lit< tt) (lit< tt) (lit< tt) (lit< tt)
@@ -64,6 +64,9 @@ largest-small = each _ (lit< tt) (lit< tt) (lit< tt) (lit< tt)
 -- so that a z2 dagger that the length rule passes is below p
 pub largest-below-spread : (s : Set) → largestOf s < pOf s * 2 ^ dOf s
 largest-below-spread = each _ (lit< tt) (lit< tt) (lit< tt) (lit< tt)
+
+pub bound-squared : (s : Set) → boundSquaredOf s ≡ boundOf s * boundOf s
+bound-squared = each _ refl refl refl refl
 
 pub key-limit-small : (s : Set) → keyLimitOf s ≤ 1784
 key-limit-small = each _ (lit≤ tt) (lit≤ tt) (lit≤ tt) (lit≤ tt)
@@ -77,10 +80,13 @@ pub second-trial : (s : Set) → 2 * ((maskLimit + 5 * kappaOf s) * (kappaOf s *
 second-trial = each _ (lit< tt) (lit< tt) (lit< tt) (lit< tt)
 
 pub total-within : (s : Set) → totalOf s ≤ recordLimit
-total-within = each _ (lit≤ tt) (lit≤ tt) (lit≤ tt) (lit≤ tt)
+total-within s = omega (arith, kappa-within s)
+
+pub record-limit : Largest totalOf recordLimit
+record-limit = (total-within, (list-limit .1 .0, ap (λ (n : ℕ). listOffset + 2 * n) (list-limit .1 .1)))
 
 pub total-small : (s : Set) → totalOf s < 2 ^ 16
-total-small = each _ (lit< tt) (lit< tt) (lit< tt) (lit< tt)
+total-small s = omega (arith, total-within s)
 
 -- a set's number stands for the set, in a record and on a call
 pub named-back : (s : Set) → namedOf (setNumberOf s) ≡ Known s
