@@ -1,7 +1,7 @@
 -- What a loop over a vector has done once it has passed i entries: it rewrites them (`Rewritten`), scans them, or
 -- compares them with another's. Assumes nothing.
 use mathlib.Core.Path.{_≡_, refl, sym, ap, ap₂, _∙_}
-use mathlib.Core.Bool.{Bool, true, false}
+use mathlib.Core.Bool.{Bool, true, false, _&&_, and-true, and-false}
 use mathlib.Core.List.{List, [], _∷_, _++_, append-nil}
 use Prim.Native.Nat.{ℕ, zero, suc, _+_, _<_, _≤_}
 use native.Mathlib.Nat.{not-suc-le-zero, le-of-suc-le-suc, suc-inj, suc-ne-zero}
@@ -56,19 +56,20 @@ module _ {A : Type 0} where
           let k : length w ≤ i = omega arith in
           so .is ∙ ap (λ (r : List A). take i w ++ r) (drop-of-length-le l h) ∙ append-nil (take i w) ∙ take-all i w k
 
--- ---- scanning: a test of the whole is the test of what is left
-module _ {A : Type 0} (test : A → Bool) (d : A) (xs : List A) (i : ℕ) (so : every test xs ≡ every test (drop i xs)) where
-  pub scan-stops : i < length xs → test (getD xs i d) ≡ false → false ≡ every test xs
-  unfolding every
-  scan-stops h e = sym (so ∙ rw (drop-cons xs i d, e))
+-- ---- scanning: a test of the whole is a flag, which tells of what is passed, and the test of what is left
+module _ {A : Type 0} (test : A → Bool) (d : A) (xs : List A) (i : ℕ) (all : Bool) (so : every test xs ≡ all && every test (drop i xs)) where
+  module _ {now : Bool} (h : i < length xs) where
+    pub scan-fails : test (getD xs i d) ≡ false → now ≡ false → every test xs ≡ now && every test (drop (i + 1) xs)
+    unfolding every
+    scan-fails e k = so ∙ rw (drop-cons xs i d, e, k) (and-false all)
 
-  pub scan-passes : i < length xs → test (getD xs i d) ≡ true → every test xs ≡ every test (drop (i + 1) xs)
-  unfolding every
-  scan-passes h e = so ∙ rw (add-one, drop-cons xs i d, e)
+    pub scan-passes : test (getD xs i d) ≡ true → now ≡ all → every test xs ≡ now && every test (drop (i + 1) xs)
+    unfolding every
+    scan-passes e k = so ∙ rw (add-one, drop-cons xs i d, e, k)
 
-  pub scan-ends : length xs ≤ i → true ≡ every test xs
+  pub scan-ends : length xs ≤ i → all ≡ every test xs
   unfolding every
-  scan-ends h = sym (so ∙ rw (drop-of-length-le xs h))
+  scan-ends h = sym (so ∙ rw (drop-of-length-le xs h) (and-true all))
 
 -- ---- comparing: two vectors are the same where what is left of them is
 module _ (xs ys : List ℕ) (long : length xs ≡ length ys) (i : ℕ) (so : same xs ys ≡ same (drop i xs) (drop i ys)) where
