@@ -40,9 +40,9 @@ loop-again c =
     let h : l .loop .i < length (a .a .now) = omega arith in (
       omega arith,
       ⊎-elim
-      (λ w. scan-fails (below (a .bound)) 0 (a .a .now) (l .loop .i) (l .loop .all) (l .loop .inv .1) h (le-ltb _ _ (w .0 .taken)) (w .1))
-      (λ w. scan-passes (below (a .bound)) 0 (a .a .now) (l .loop .i) (l .loop .all) (l .loop .inv .1) h (lt-ltb _ _ (w .0 .left)) (w .1))
-      (c .if1 .came),
+          (λ w. scan-fails (below (a .bound)) 0 (a .a .now) (l .loop .i) (l .loop .all) (l .loop .inv .1) h (le-ltb _ _ (w .0 .taken)) (w .1))
+          (λ w. scan-passes (below (a .bound)) 0 (a .a .now) (l .loop .i) (l .loop .all) (l .loop .inv .1) h (lt-ltb _ _ (w .0 .left)) (w .1))
+          (c .if1 .came),
     )
 
 returns : tie.Need-returns Inv-loop μ-loop

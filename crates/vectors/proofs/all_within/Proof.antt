@@ -57,13 +57,13 @@ loop-again c =
     let h : l .loop .i < length (a .x .now) = omega arith in (
       omega arith,
       ⊎-elim
-      (λ w.
-        scan-fails (within (a .bound)) (pos 0) (a .x .now) (l .loop .i) (l .loop .all) (l .loop .inv .1) h
-        (lt-leb (natAbs (entry at)) _ (omega (arith, is-size at, w .0 .taken))) (w .1))
-      (λ w.
-        scan-passes (within (a .bound)) (pos 0) (a .x .now) (l .loop .i) (l .loop .all) (l .loop .inv .1) h
-        (le-leb (natAbs (entry at)) _ (omega (arith, is-size at, w .0 .left))) (w .1))
-      (c .if1 .came),
+          (λ w.
+          scan-fails (within (a .bound)) (pos 0) (a .x .now) (l .loop .i) (l .loop .all) (l .loop .inv .1) h
+          (lt-leb (natAbs (entry at)) _ (omega (arith, is-size at, w .0 .taken))) (w .1))
+          (λ w.
+          scan-passes (within (a .bound)) (pos 0) (a .x .now) (l .loop .i) (l .loop .all) (l .loop .inv .1) h
+          (le-leb (natAbs (entry at)) _ (omega (arith, is-size at, w .0 .left))) (w .1))
+          (c .if1 .came),
     )
 
 returns : tie.Need-returns Inv-loop μ-loop
