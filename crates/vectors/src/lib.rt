@@ -67,32 +67,34 @@ fn is_rising(list: &[u16]) -> bool
 
 // ---- ranges
 
-// Whether every entry is below a bound.
+// Whether every entry is below a bound. A range test goes through all entries and leaves no loop early: the compiler then tests several at a time.
 pub fn all_below(a: &[u16], bound: u16) -> bool
     ensures { λ r. ⌜ r ≡ every (below bound) (now (a .entry)) ⌝ }
 {
+    let mut all = true;
     let mut i = 0;
     while i < a.len() {
         if bound <= a[i] {
-            return false;
+            all = false;
         }
         i += 1;
     }
-    true
+    all
 }
 
 // Whether every entry lies in - bound .. bound.
 pub fn all_within(x: &[i16], bound: u32) -> bool
     ensures { λ r. ⌜ r ≡ every (within bound) (now (x .entry)) ⌝ }
 {
+    let mut all = true;
     let mut i = 0;
     while i < x.len() {
         if bound < size(x[i]) {
-            return false;
+            all = false;
         }
         i += 1;
     }
-    true
+    all
 }
 
 // |x|, which is 2^15 for the least i16.
