@@ -6,16 +6,18 @@ use borrow.Author.Tests.{ltb-true}
 use lib.Dec.{lit≤}
 use lib.IntN.{ℤ}
 use lib.ListN.{length, getD, take, drop}
+use Rattle.laws.specs.Lists.{every}
 use Rattle.laws.proofs.Entries.{every-at}
 use Rattle.sets.specs.Numbers.{dimension}
 use Rattle.polynomials.specs.Product.{shift}
 use Rattle.polynomials.proofs.Shift.{shift-window}
 use Rattle.vectors.specs.Places.{isPlace}
-use Rattle.vectors.specs.Vectors.{squares, mirrored}
-use Rattle.vectors.proofs.Ranges.{within-wider}
+use Rattle.vectors.specs.Vectors.{within, mirrored}
+use Rattle.vectors.proofs.Ranges.{within-at, within-of, within-wider}
 use Rattle.vectors.specs.Pairs.{Pair, pair}
-use Rattle.choices.proofs.Pairs.{Sized}
-use Rattle.choices.proofs.Bound.{sized-column, squares-column}
+use Rattle.choices.proofs.Pairs.{Sized, Within}
+use Rattle.choices.proofs.Bound.{sized-column}
+use Rattle.choices.proofs.Sums.{within-column}
 use Rattle.choices.proofs.Walk.{Walked, walk-start, walk-more, walk-end, walk-room}
 use Rattle.choices.proofs.choose.Statement.{statement}
 use Rattle.choices.proofs.choose.Tie as tie
@@ -42,6 +44,9 @@ module _ (c : tie.Start Inv-loop μ-loop) where
 
   sized : Sized key
   sized = record { first = c .pre .0 .0; second = c .pre .0 .1 }
+
+  small : Within 5 key
+  small = record { first = within-at 5 (key .first) (c .pre .0 .2); second = within-at 5 (key .second) (c .pre .0 .3) }
 
 -- at a place that is left
 module _ (c : tie.In-loop Inv-loop μ-loop) where
@@ -125,15 +130,16 @@ step-requires : tie.Need-step-requires Inv-loop μ-loop
 step-requires c κs =
     let l = c .before .before .before .before .before .before .before in
     let s = start l in
-    let v = l .before .loop .inv .1 .short .sized in
-    let w = sized-column (place l) (key s) (sized s) in (
-      (v .first, v .second, ap length (first-part l) ∙ w .first, ap length (second-part l) ∙ w .second),
-      omega (
-        arith,
-        walk-room (key s) (sized s) (s .pre .0 .2) (s .pre .0 .3) (l .before .loop .k) (vector l) (omega arith) (l .before .loop .inv .1 .short),
-        squares-column (place l) (key s),
-        ap squares (first-part l),
-        ap squares (second-part l),
+    let so = l .before .loop .inv .1 in
+    let w = sized-column (place l) (key s) (sized s) in
+    let room = walk-room (key s) (small s) so (omega arith) in
+    let x = within-column (key s) (sized s) 5 (small s) (place l) (place-small l) in (
+      (so .short .sized .first, so .short .sized .second, ap length (first-part l) ∙ w .first, ap length (second-part l) ∙ w .second),
+      (
+        room .0,
+        room .1,
+        ap (every (within 5)) (first-part l) ∙ within-of 5 (shift (place l) (key s .first)) (x .first),
+        ap (every (within 5)) (second-part l) ∙ within-of 5 (shift (place l) (key s .second)) (x .second),
       ),
     )
 
@@ -149,7 +155,7 @@ loop-again c =
     let s = start l in (
       omega arith,
       rw (c .before .before .step .ensures, first-part l, second-part l)
-          (walk-more (key s) (s .args .list .now) (l .before .loop .inv .1) (sized s) (l .loop-test .taken)),
+          (walk-more (key s) (s .args .list .now) (l .before .loop .inv .1) (sized s) (l .loop-test .taken) (place-small l)),
     )
 
 same-length : tie.Need-same-length Inv-loop μ-loop

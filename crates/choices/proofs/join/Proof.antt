@@ -1,35 +1,22 @@
 use mathlib.Core.Path.{_≡_, sym, _∙_, ap}
 use mathlib.Core.Bool.{Bool}
 use mathlib.Core.List.{List}
-use Prim.Native.Nat.{ℕ, _+_, _^_, _<_, _≤_}
-use native.Mathlib.Omega.{arith}
 use borrow.Author.Needs.{needs}
-use lib.IntN.{ℤ, pos, natAbs}
-use lib.ListN.{getD}
+use lib.IntN.{ℤ}
 use Rattle.laws.specs.Lists.{zipWith}
-use Rattle.vectors.specs.Vectors.{squares}
-use Rattle.vectors.proofs.Lengths.{entry-le}
 use Rattle.choices.specs.Choices.{addedIf}
 use Rattle.choices.proofs.join.Statement.{statement}
 use Rattle.choices.proofs.join.Tie as tie
-
--- squared lengths of together at most 2^26 have entries of at most 2^13
-room : (v c : List ℤ) → squares v + squares c ≤ 2 ^ 26 → (k : ℕ) → natAbs (getD v k (pos 0)) + natAbs (getD c k (pos 0)) < 32768
-room v c h k = omega (arith, entry-le 8192 v (omega arith) k, entry-le 8192 c (omega arith) k)
 
 -- the operation, by the flag's value
 way : {b add : Bool} (v c : List ℤ) → add ≡ b → zipWith (addedIf b) v c ≡ zipWith (addedIf add) v c
 way v c e = ap (λ (t : Bool). zipWith (addedIf t) v c) (sym e)
 
 add-to-requires : tie.Need-add-to-requires
-add-to-requires c κs =
-    let s = c .before .before in
-    (s .pre .0, s .pre .1, room (s .args .v .now) (s .args .c .now) (s .pre .2))
+add-to-requires c κs = c .before .before .pre
 
 subtract-from-requires : tie.Need-subtract-from-requires
-subtract-from-requires c κs =
-    let s = c .before .before in
-    (s .pre .0, s .pre .1, room (s .args .v .now) (s .args .c .now) (s .pre .2))
+subtract-from-requires c κs = c .before .before .pre
 
 same-length : tie.Need-same-length
 same-length c = search needs
