@@ -112,8 +112,8 @@ loop-again c =
     let s = begin c in (
       omega arith,
       more (old s) (new s) (same s) (here c .loop .inv .1) (pos 0) _ (omega arith)
-      (add-is (sum-is c) (product-is c) (omega (arith, room c, abs-mul (x c) (y c))) .back
-      ∙ sym (gathered-at (old s) (s .args .a .now) (s .args .b .now) (s .args .start) (s .pre .0 .0) (s .pre .0 .1) (s .pre .0 .2) (s .pre .0 .3) (here c .loop .i) (omega arith))),
+          (add-is (sum-is c) (product-is c) (omega (arith, room c, abs-mul (x c) (y c))) .back
+          ∙ sym (gathered-at (old s) (s .args .a .now) (s .args .b .now) (s .args .start) (s .pre .0 .0) (s .pre .0 .1) (s .pre .0 .2) (s .pre .0 .3) (here c .loop .i) (omega arith))),
     )
 
 same-length : tie.Need-same-length Inv-loop μ-loop

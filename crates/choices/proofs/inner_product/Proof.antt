@@ -113,9 +113,9 @@ loop-again c =
     let next : from m + 128 ≡ 128 * (here m .loop .quarter + 1) = omega arith in (
       omega arith,
       gathered-as
-      (gathered-more (halfway m) (vector s .second) (column s .second) (s .pre .0 .1) (s .pre .0 .3) (second-small s) (from m) (omega arith) (c .before .gather2 .ensures))
-      (omega arith)
-      (front-more (vector s) (column s) (vector-sized s) (column-sized s) (from m) (omega arith) ∙ ap (front (vector s) (column s)) next),
+          (gathered-more (halfway m) (vector s .second) (column s .second) (s .pre .0 .1) (s .pre .0 .3) (second-small s) (from m) (omega arith) (c .before .gather2 .ensures))
+          (omega arith)
+          (front-more (vector s) (column s) (vector-sized s) (column-sized s) (from m) (omega arith) ∙ ap (front (vector s) (column s)) next),
     )
 
 slice-aggregate-total : tie.Need-slice-aggregate-total Inv-loop μ-loop
