@@ -1,43 +1,24 @@
 -- An inner product of 512 entries made in 128 sums, to each of which the products of a quarter are added in turn. Assumes nothing.
 use mathlib.Core.Path.{_≡_, refl, sym, ap, ap₂, subst, _∙_}
-use mathlib.Core.List.{List, [], _∷_, _++_}
-use Prim.Native.Nat.{ℕ, zero, suc, _+_, _*_, _<_, _≤_}
+use mathlib.Core.List.{List, [], _∷_}
+use Prim.Native.Nat.{ℕ, _+_, _*_, _<_, _≤_}
 use native.Mathlib.Nat.{suc-inj, suc-ne-zero, add-mul}
-use native.Mathlib.Numerals.{add-one}
 use native.Mathlib.Omega.{arith}
-use lib.IntN.{ℤ, pos, natAbs, _+ℤ_, _*ℤ_, +ℤ-assoc, +ℤ-idl, +ℤ-idr}
+use lib.IntN.{ℤ, pos, natAbs, _+ℤ_, _*ℤ_, +ℤ-assoc}
 use lib.ListN.{length, getD, take, drop, replicate, getD-replicate, length-drop}
 use lib.Seq.{getD-take, getD-drop, length-take-le, take-add, take-all}
 use Rattle.laws.specs.Integers.{sumℤ}
 use Rattle.laws.specs.Lists.{zipWith}
 use Rattle.laws.proofs.Bounds.{abs-add, abs-mul}
 use Rattle.laws.proofs.Entries.{length-zipWith, getD-zipWith}
-use Rattle.laws.proofs.Solver.{v, _⊕_, ring}
 use Rattle.sets.specs.Numbers.{dimension}
+use Rattle.polynomials.proofs.Operations.{plus, linear-medial}
 use Rattle.vectors.specs.Vectors.{inner}
+use Rattle.vectors.proofs.Sums.{inner-append}
 use Rattle.vectors.specs.Pairs.{Pair, innerPair}
 use Rattle.choices.proofs.Pairs.{Sized}
 
--- ---- sums
-sum-suc : (term : ℕ → ℤ) (n : ℕ) → sumℤ term (suc n) ≡ sumℤ term n +ℤ term n
-unfolding sumℤ
-sum-suc term zero = +ℤ-idr (term 0) ∙ sym (+ℤ-idl (term 0))
-sum-suc term (suc n) = ap (λ (z : ℤ). term 0 +ℤ z) (sum-suc (λ i. term (suc i)) n) ∙ sym (+ℤ-assoc (term 0) _ _)
-
--- one term more
-pub sum-more : (term : ℕ → ℤ) (n : ℕ) → sumℤ term (n + 1) ≡ sumℤ term n +ℤ term n
-sum-more term n = rw add-one (sum-suc term n)
-
-exchange : (x p s d : ℤ) → (x +ℤ p) +ℤ (s +ℤ d) ≡ (x +ℤ s) +ℤ (p +ℤ d)
-exchange x p s d = ring (x ∷ p ∷ s ∷ d ∷ []) ((v 0 ⊕ v 1) ⊕ (v 2 ⊕ v 3)) ((v 0 ⊕ v 2) ⊕ (v 1 ⊕ v 3)) refl
-
 -- ---- inner products in parts
-inner-append : (a b c d : List ℤ) → length a ≡ length b → inner (a ++ c) (b ++ d) ≡ inner a b +ℤ inner c d
-unfolding inner
-inner-append [] [] c d e = sym (+ℤ-idl (inner c d))
-inner-append [] (y ∷ b) c d e = absurd (suc-ne-zero (length b) (sym e))
-inner-append (x ∷ a) [] c d e = absurd (suc-ne-zero (length a) e)
-inner-append (x ∷ a) (y ∷ b) c d e = ap (λ (z : ℤ). x *ℤ y +ℤ z) (inner-append a b c d (suc-inj e)) ∙ sym (+ℤ-assoc (x *ℤ y) _ _)
 
 -- the entries of a quarter
 abbrev pub part : ℕ → List ℤ → List ℤ
@@ -63,7 +44,7 @@ total-gather [] (y ∷ a) b la lb = absurd (suc-ne-zero (length a) la)
 total-gather (x ∷ s) [] b la lb = absurd (suc-ne-zero (length s) (sym la))
 total-gather (x ∷ s) (y ∷ a) [] la lb = absurd (suc-ne-zero (length s) (sym lb))
 total-gather (x ∷ s) (y ∷ a) (z ∷ b) la lb =
-    ap (λ (r : ℤ). (x +ℤ y *ℤ z) +ℤ r) (total-gather s a b (suc-inj la) (suc-inj lb)) ∙ exchange x (y *ℤ z) _ (inner a b)
+    ap (λ (r : ℤ). (x +ℤ y *ℤ z) +ℤ r) (total-gather s a b (suc-inj la) (suc-inj lb)) ∙ linear-medial plus plus x (y *ℤ z) _ (inner a b)
 
 -- the sums after a gather
 abbrev pub gathered : List ℤ → List ℤ → List ℤ → ℕ → List ℤ
@@ -138,7 +119,7 @@ module _ (x c : Pair) (hx : Sized x) (hc : Sized c) where
       let first = inner (take start (x .first)) (take start (c .first)) in
       let second = inner (take start (x .second)) (take start (c .second)) in
       +ℤ-assoc (front x c start) (inner (part start (x .first)) (part start (c .first))) (inner (part start (x .second)) (part start (c .second)))
-      ∙ exchange first second (inner (part start (x .first)) (part start (c .first))) (inner (part start (x .second)) (part start (c .second)))
+      ∙ linear-medial plus plus first second (inner (part start (x .first)) (part start (c .first))) (inner (part start (x .second)) (part start (c .second)))
       ∙ ap₂ _+ℤ_ (sym (inner-parts (x .first) (c .first) (hx .first) (hc .first) start inside)) (sym (inner-parts (x .second) (c .second) (hx .second) (hc .second) start inside))
 
   pub front-all : (start : ℕ) → dimension ≤ start → front x c start ≡ innerPair x c

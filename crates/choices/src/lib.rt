@@ -4,6 +4,7 @@ ghost use mathlib.Core.Bool.{true};
 ghost use Prim.Native.Nat.{ℕ, _+_, _*_, _^_, _<_, _≤_};
 ghost use lib.IntN.{pos, natAbs, _+ℤ_, _*ℤ_};
 ghost use lib.ListN.{length, getD, take, drop};
+ghost use lib.Signed.{ltZ};
 ghost use Rattle.laws.specs.Integers.{sumℤ};
 ghost use Rattle.laws.specs.Lists.{every, zipWith};
 ghost use Rattle.sets.specs.Numbers.{dimension, listLimit};
@@ -40,17 +41,16 @@ fn step(v1: &mut [i16], v2: &mut [i16], c1: &[i16], c2: &[i16])
     ensures { λ _. ⌜ pair (now (v1 .exit)) (now (v2 .exit)) ≡ chosen (pair (now (v1 .entry)) (now (v2 .entry))) (pair (now (c1 .entry)) (now (c2 .entry))) ⌝ }
 {
     let inner = inner_product(v1, v2, c1, c2);
-    let negative = inner < 0;
-    join(v1, c1, negative);
-    join(v2, c2, negative);
+    join(v1, c1, inner);
+    join(v2, c2, inner);
 }
 
-// v + c or v - c, in v's place.
-fn join(v: &mut [i16], c: &[i16], add: bool)
+// v + c or v - c, in v's place, by the sign of an inner product.
+fn join(v: &mut [i16], c: &[i16], inner: i32)
     requires { ⌜ (length (now v) ≡ dimension) × (length (now c) ≡ dimension) × ((k : ℕ) → natAbs (getD (now v) k (pos 0)) + natAbs (getD (now c) k (pos 0)) < 32768) ⌝ }
-    ensures { λ _. ⌜ now (v .exit) ≡ zipWith (addedIf add) (now (v .entry)) (now (c .entry)) ⌝ }
+    ensures { λ _. ⌜ now (v .exit) ≡ zipWith (addedIf (ltZ inner (pos 0))) (now (v .entry)) (now (c .entry)) ⌝ }
 {
-    if add {
+    if inner < 0 {
         vectors::add_to(v, c);
     } else {
         vectors::subtract_from(v, c);
@@ -76,7 +76,7 @@ fn inner_product(v1: &[i16], v2: &[i16], c1: &[i16], c2: &[i16]) -> i32
 // The products of the 128 entries from a start on, each added to its sum.
 fn gather(sums: &mut [i16], a: &[i16], b: &[i16], start: usize)
     requires { ⌜ (length (now sums) ≡ 128) × (length (now a) ≡ dimension) × (length (now b) ≡ dimension) × (start + 128 ≤ dimension) ⌝ }
-    requires { ⌜ ((k : ℕ) → k < 128 → natAbs (getD (now sums) k (pos 0)) + natAbs (getD (now a) (start + k) (pos 0)) * natAbs (getD (now b) (start + k) (pos 0)) < 2 ^ 15) ⌝ }
+    requires { ⌜ ((j k : ℕ) → j < 128 → natAbs (getD (now sums) j (pos 0)) + natAbs (getD (now a) k (pos 0)) * natAbs (getD (now b) k (pos 0)) < 2 ^ 15) ⌝ }
     ensures { λ _. ⌜ now (sums .exit) ≡ zipWith _+ℤ_ (now (sums .entry)) (zipWith _*ℤ_ (take 128 (drop start (now (a .entry)))) (take 128 (drop start (now (b .entry))))) ⌝ }
 {
     for i in 0..128 {

@@ -75,7 +75,7 @@ module _ (c : tie.After-sums3 Inv-loop μ-loop) where
   y = getD (begin .args .b .now) (begin .args .start + here .loop .i) (pos 0)
 
   room : natAbs sum + natAbs x * natAbs y < 32768
-  room = begin .pre .1 (here .loop .i) (omega arith)
+  room = begin .pre .1 (here .loop .i) (begin .args .start + here .loop .i) (omega arith)
 
   sum-is : Reads w16 (ofZ w16 (getD (here .loop .sums) (here .loop .i) (pos 0))) sum
   sum-is = record { back = element w16 _ (c .before .before .sums .given) .back ∙ next-is (old begin) (new begin) (same begin) (here .loop .inv .1) (pos 0) (omega arith) }

@@ -66,7 +66,7 @@ gather-requires c κs =
     let l = c .before .before in
     let s = l .before in (
       (l .loop .inv .1 .long, s .pre .0 .0, s .pre .0 .2, omega arith),
-      λ k h. omega (arith, l .loop .inv .1 .small k h, first-small s (128 * l .loop .quarter + k)),
+      λ j k h. omega (arith, l .loop .inv .1 .small j h, first-small s k),
     )
 
 -- with the quarter's products of the first half
@@ -97,7 +97,7 @@ gather-requires-2 c κs =
     let m = c .before .before in
     let s = begin m in (
       (halfway m .long, s .pre .0 .1, s .pre .0 .3, omega arith),
-      λ k h. omega (arith, halfway m .small k h, second-small s (from m + k)),
+      λ j k h. omega (arith, halfway m .small j h, second-small s k),
     )
 
 add-quarter : tie.Need-add-quarter Inv-loop μ-loop

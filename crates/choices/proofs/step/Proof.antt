@@ -40,9 +40,6 @@ module _ (c : tie.After-inner-product) where
   inner-is : Reads w32 (ofZ w32 (c .inner-product .result)) (innerPair (vector start) (column start))
   inner-is = record { back = element w32 _ (c .inner-product .ok) .back ∙ c .inner-product .ensures }
 
-  sign-is : ltZ (toZ w32 (ofZ w32 (c .inner-product .result))) (toZ w32 0) ≡ ltZ (innerPair (vector start) (column start)) (pos 0)
-  sign-is = sym (lt-is inner-is (held w32 0) refl)
-
 join-requires : tie.Need-join-requires
 join-requires c κs =
     let s = start (c .before) in
@@ -64,7 +61,7 @@ unfolding chosen
 returns c =
     let p = c .before .before .before .before .before .before in
     ap₂ pair (c .before .before .before .before .join .ensures) (c .before .join2 .ensures)
-    ∙ ap (λ (b : Bool). pair (zipWith (addedIf b) (vector (start p) .first) (column (start p) .first)) (zipWith (addedIf b) (vector (start p) .second) (column (start p) .second))) (sign-is p)
+    ∙ ap (λ (z : ℤ). pair (zipWith (addedIf (ltZ z (pos 0))) (vector (start p) .first) (column (start p) .first)) (zipWith (addedIf (ltZ z (pos 0))) (vector (start p) .second) (column (start p) .second))) (inner-is p .back)
 
 pub step-spec : {M : Type 1} → statement M
 step-spec = tie.close (tie.spec inner-product-requires join-requires join-requires-2 same-length same-length-2 returns)

@@ -8,8 +8,8 @@ use mir.Syntax.{w16, w32}
 use mir.Val.{SFits, toZ, ofZ}
 use Rattle.laws.specs.Integers.{sumℤ}
 use Rattle.laws.proofs.Bounds.{abs-add, abs-mag}
+use Rattle.laws.proofs.Sums.{sum-more}
 use Rattle.laws.proofs.Machine.{Reads, held, fits, wider-ok, wider-is, operation-ok, operation-is}
-use Rattle.choices.proofs.Quarters.{sum-more}
 use Rattle.choices.proofs.total.Statement.{statement}
 use Rattle.choices.proofs.total.Tie as tie
 
