@@ -195,7 +195,7 @@ reaches-the-draw set s f g a y1 y2 l bit thresholds words out1 out2 known passes
 
 -- ---- both sentences
 -- a proper list and the same list
-same-list : (set : ℕ) (s : Set) (l : List ℕ) → askedOf set ≡ Known s → properList s l ≡ true → comparison set l l ≡ Done
+pub same-list : (set : ℕ) (s : Set) (l : List ℕ) → askedOf set ≡ Known s → properList s l ≡ true → comparison set l l ≡ Done
 unfolding comparison
 same-list set s l known proper = rw (known, proper, is-same l)
 
