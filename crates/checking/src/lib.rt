@@ -111,7 +111,7 @@ fn both_proper(s: Set, claimed: &[u16], hashed: &[u16]) -> bool
     vectors::is_proper(s, hashed)
 }
 
-fn same(x: &[u16], y: &[u16]) -> bool
+pub fn same(x: &[u16], y: &[u16]) -> bool
     requires { ⌜ length (now x) ≡ length (now y) ⌝ }
     ensures { λ r. ⌜ r ≡ sameOf (now (x .entry)) (now (y .entry)) ⌝ }
 {

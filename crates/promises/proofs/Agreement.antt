@@ -19,6 +19,7 @@ use Rattle.sets.specs.Numbers.{dimension, modulus, twiceModulus, places, askedO
 use Rattle.answers.specs.declared.Outcome.{Outcome}
 use Rattle.answers.specs.declared.Outcome.the-variants.{Done}
 use Rattle.answers.specs.Outcomes.{numberOf, filled}
+use Rattle.answers.proofs.Calls.{zero-is}
 use Rattle.polynomials.specs.Product.{one}
 use Rattle.rounding.specs.Rounding.{upper, dagger, restored}
 use Rattle.vectors.specs.Places.{properList, listed}
@@ -40,7 +41,6 @@ use Rattle.signing.proofs.Ways.{are-sized}
 use Rattle.checking.specs.Checking.{claim, marks, rebuilt, rebuild, comparison}
 use Rattle.checking.proofs.Marks.{length-marks, getD-marks}
 use Rattle.promises.specs.Demands.{ResponseLength, GivenOutIsAccepted, ReachesTheDraw, Demand3}
-use Rattle.promises.proofs.Passed.{zero-is}
 use Rattle.promises.proofs.Keys.{key-carries, key-sized, passing, second-parity}
 use Rattle.promises.proofs.Sums.{sums-at}
 use Rattle.promises.proofs.Daggers.{restored-dagger}
@@ -196,7 +196,7 @@ reaches-the-draw set s c h b =
 
 -- ---- both sentences
 -- a proper list and the same list
-same-list : (set : ℕ) (s : Set) (l : List ℕ) → askedOf set ≡ Known s → properList s l ≡ true → numberOf (comparison set l l) ≡ 0
+pub same-list : (set : ℕ) (s : Set) (l : List ℕ) → askedOf set ≡ Known s → properList s l ≡ true → numberOf (comparison set l l) ≡ 0
 unfolding comparison
 same-list set s l known proper = rw (known, proper, is-same l)
 

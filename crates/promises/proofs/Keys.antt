@@ -16,6 +16,7 @@ use Rattle.sets.specs.declared.Asked.the-variants.{Known}
 use Rattle.sets.specs.Numbers.{dimension, keyLimitOf, askedOf}
 use Rattle.answers.specs.declared.Outcome.the-variants.{Done, UnknownSet, WrongLength, CoefficientOutside, RelationBroken, KeyTooLong}
 use Rattle.answers.specs.Outcomes.{numberOf, isDone, forSet}
+use Rattle.answers.proofs.Calls.{zero-is}
 use Rattle.polynomials.specs.Product.{product, one}
 use Rattle.polynomials.proofs.Carries.{Carries}
 use Rattle.polynomials.proofs.Residues.{residues}
@@ -26,7 +27,7 @@ use Rattle.keys.proofs.Second.{double, length-second}
 use Rattle.vectors.specs.Pairs.{pair, squaresPair}
 use Rattle.choices.proofs.Pairs.{Sized}
 use Rattle.signing.specs.Response.{Lent}
-use Rattle.promises.proofs.Passed.{zero-is, itself, must-passed, set-known}
+use Rattle.promises.proofs.Passed.{itself, must-passed, set-known}
 
 -- ---- the tests of a key
 module _ (s : Set) (a : List ℕ) (s1 s2 : List ℤ) (h : properKey s a s1 s2 ≡ Done) where

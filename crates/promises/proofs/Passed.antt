@@ -2,7 +2,6 @@
 use mathlib.Core.Path.{_≡_, refl, sym, ap, _∙_}
 use mathlib.Core.Bool.{Bool, true, false}
 use Prim.Native.Nat.{ℕ}
-use borrow.Author.Tests.{eq-eqb}
 use Rattle.laws.specs.Refusals.{must}
 use Rattle.laws.proofs.Chain.{differ}
 use Rattle.sets.specs.declared.Set.{Set}
@@ -10,15 +9,11 @@ use Rattle.sets.specs.declared.Asked.{Asked}
 use Rattle.sets.specs.declared.Asked.the-variants.{Known, Unknown}
 use Rattle.answers.specs.declared.Outcome.{Outcome}
 use Rattle.answers.specs.declared.Outcome.the-variants.{Done}
-use Rattle.answers.specs.Outcomes.{numberOf, isDone, unless, forSet}
+use Rattle.answers.specs.Outcomes.{isDone, unless, forSet}
 use Rattle.answers.proofs.Calls.{done-is}
 use Rattle.draw.specs.declared.Ending.{Ending}
 use Rattle.draw.specs.declared.Ending.the-variants.{Accepted, Rejected, OutOfWords}
 use Rattle.draw.specs.Draw.{afterWalk}
-
--- the number 0 is that of Done alone
-pub zero-is : (o : Outcome) → numberOf o ≡ 0 → o ≡ Done
-zero-is o e = done-is o (eq-eqb (numberOf o) 0 e)
 
 -- of an answer that is an outcome and no more
 abbrev pub itself : Outcome → Outcome

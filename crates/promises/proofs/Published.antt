@@ -18,6 +18,7 @@ use Rattle.sets.specs.Numbers.{dimension, modulus, twiceModulus, factor, dOf, l
 use Rattle.answers.specs.declared.Outcome.{Outcome}
 use Rattle.answers.specs.declared.Outcome.the-variants.{Done}
 use Rattle.answers.specs.Outcomes.{numberOf}
+use Rattle.answers.proofs.Calls.{zero-is}
 use Rattle.polynomials.specs.Product.{wrapped, coefficient, times, product, one}
 use Rattle.polynomials.proofs.Carries.{Carries}
 use Rattle.polynomials.proofs.One.{length-one}
@@ -37,7 +38,6 @@ use Rattle.signing.specs.Response.{masked}
 use Rattle.checking.specs.Checking.{marks}
 use Rattle.checking.proofs.Marks.{length-marks, getD-marks}
 use Rattle.promises.specs.Published.{scaled, vectorSum, modulo2q, zeta, ZetaInverts, a₁, KeyEquation, CommitmentSum, challenge, RebuildSum, minusOneTo, SignBit, LengthRules}
-use Rattle.promises.proofs.Passed.{zero-is}
 use Rattle.promises.proofs.Keys.{key-tested-some, key-carries, second-parity}
 use Rattle.promises.proofs.Sums.{getD-sums}
 

@@ -15,6 +15,7 @@ use Rattle.sets.specs.declared.Asked.the-variants.{Known, Unknown}
 use Rattle.answers.specs.declared.Outcome.{Outcome}
 use Rattle.answers.specs.declared.Outcome.the-variants.{Done, DrawRejected, WordMissing, EntryBeyond, SumAbove}
 use Rattle.answers.specs.Outcomes.{numberOf, forSet, Filled, filled}
+use Rattle.answers.proofs.Calls.{zero-is}
 use Rattle.limits.specs.LengthRule.{entries, lengthRule}
 use Rattle.keys.specs.Key.{properKey}
 use Rattle.commitment.specs.Commitment.{commitment}
@@ -29,7 +30,6 @@ use Rattle.record_forms.specs.Headers.{opened}
 use Rattle.records.specs.Writer.{writingFor, writingOf}
 use Rattle.records.specs.Reader.{Found, found, readingFor, readingOf}
 use Rattle.promises.specs.Demands.{OnlyDone, CommitmentKeeps, RebuildKeeps, ResponseKeeps, WriterKeeps, ReaderKeeps, ResponseCounts}
-use Rattle.promises.proofs.Passed.{zero-is}
 
 pub only-done : OnlyDone
 only-done = (refl, zero-is)

@@ -20,7 +20,7 @@ use Rattle.sets.proofs.Alike.{asked-back}
 use Rattle.answers.specs.declared.Outcome.{Outcome}
 use Rattle.answers.specs.declared.Outcome.the-variants.{Done, UnknownSet, WrongLength, HeaderMalformed, OutputShort}
 use Rattle.answers.specs.Outcomes.{numberOf, isDone, unless, forSet, Filled, filled}
-use Rattle.answers.proofs.Calls.{done-is}
+use Rattle.answers.proofs.Calls.{zero-is}
 use Rattle.vectors.proofs.Rising.{proper-count}
 use Rattle.record_forms.specs.declared.Header.{Header}
 use Rattle.record_forms.specs.declared.Header.the-variants.{States, Malformed}
@@ -56,12 +56,9 @@ pub record WritesBack (rec : List ℕ) (set : ℕ) (z1 z2 : List ℤ) (list : Li
       → (o : Outcome) × (numberOf o ≡ 0) × (writingOf set z1 z2 (take (kappaOf s) list) out ≡ filled o (rec ++ drop (totalOf s) out))
 
 -- ---- what a call passed that is done
-number-done : (o : Outcome) → numberOf o ≡ 0 → o ≡ Done
-number-done o e = done-is o (eq-eqb _ _ e)
-
 -- what was read with the number 0, as the reader's contract has it
 pub read-done : {x : Found} {set : ℕ} {z1 z2 : List ℤ} {list : List ℕ} → (o : Outcome) × (numberOf o ≡ 0) × (x ≡ found o set z1 z2 list) → x ≡ found Done set z1 z2 list
-read-done r = let done : r .0 ≡ Done = number-done (r .0) (r .1) in let is = r .2 in cc
+read-done r = let done : r .0 ≡ Done = zero-is (r .0) (r .1) in let is = r .2 in cc
 
 not-done : {o : Outcome} → isDone o ≡ false → o ≡ Done → ⊥
 not-done e f = differ (sym e ∙ ap isDone f)
@@ -109,7 +106,7 @@ module _ (g : Signature) (so : Sized g) (kept : isDone (refusalOf g) ≡ true) w
 pub written-reads : (set : ℕ) (z1 z2 : List ℤ) (list out : List ℕ) (o : Outcome) (out′ : List ℕ) → numberOf o ≡ 0 → writingOf set z1 z2 list out ≡ filled o out′
     → ReadsBack set z1 z2 list out′
 unfolding writingOf
-written-reads set z1 z2 list out o out′ zero e = by-set (askedOf set) refl (e ∙ ap (λ (p : Outcome). filled p out′) (number-done o zero))
+written-reads set z1 z2 list out o out′ zero e = by-set (askedOf set) refl (e ∙ ap (λ (p : Outcome). filled p out′) (zero-is o zero))
   where
     known : (s : Set) → askedOf set ≡ Known s → Wrote (signature s z1 z2 list) out out′ → ReadsBack set z1 z2 list out′
     known s asked w =
@@ -178,7 +175,7 @@ pub read-writes : (rec : List ℕ) → every isByte rec ≡ true → (b1 b2 : Li
     → numberOf o ≡ 0 → readingOf rec b1 b2 b3 ≡ found o set z1 z2 list → WritesBack rec set z1 z2 list
 unfolding writingOf
 read-writes rec bytes b1 b2 b3 o set z1 z2 list zero e =
-    let r = found-well rec b3 b1 b2 set z1 z2 list (e ∙ ap (λ (p : Outcome). found p set z1 z2 list) (number-done o zero)) in
+    let r = found-well rec b3 b1 b2 set z1 z2 list (e ∙ ap (λ (p : Outcome). found p set z1 z2 list) (zero-is o zero)) in
     let s = r .s in
     let (named, is1, is2, is3) = same (r .is) in
     let read = signatureIn s rec .list in
