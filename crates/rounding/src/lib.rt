@@ -1,19 +1,20 @@
 // Rounding: upper digits, centring modulo p, and the sums that are rounded (01, "Ring arithmetic").
 // A number is reduced modulo 24578 before it is rounded, always: 25,089 reduces to 511, whose upper digits are 0 at d = 10; rounded first it gives 1.
+// So what is rounded has to be below 24578, by a `requires`.
 ghost use mathlib.Core.Path.{_≡_};
-ghost use Prim.Native.Nat.{_+_, _*_, _%_, _<_};
+ghost use Prim.Native.Nat.{_+_, _*_, _<_};
 ghost use lib.IntN.{pos, natAbs, _+ℤ_, _-ℤ_};
 ghost use Rattle.laws.specs.Integers.{residue};
 ghost use Rattle.sets.specs.Numbers.{twiceModulus, pOf};
 ghost use Rattle.rounding.specs.Rounding.{upper, centred, summed, dagger as daggerOf, restored as restoredOf};
 use sets::Set;
 
-// The upper digits of x, reduced first. With 2^(d-1) added, a reduced x is below p + 1 steps, so the remainder by p is 0 at p and the number itself below.
+// The upper digits of a reduced x. With 2^(d-1) added it is below p + 1 steps, so the remainder by p is 0 at p and the number itself below.
 pub fn upper_digits(s: Set, x: u32) -> u32
-    ensures { λ r. ⌜ r ≡ upper s (x % twiceModulus) ⌝ }
+    requires { ⌜ x < twiceModulus ⌝ }
+    ensures { λ r. ⌜ r ≡ upper s x ⌝ }
 {
-    let reduced = x % Set::TWICE_MODULUS;
-    let steps = (reduced + s.step() / 2) >> s.d();
+    let steps = (x + s.step() / 2) >> s.d();
     if steps == s.p() { 0 } else { steps }
 }
 
@@ -75,7 +76,7 @@ pub fn dagger(s: Set, u: u32, z: i16) -> i8
     centre(s, wrap(s, whole + s.p() - rest))
 }
 
-// z modulo p, of z2 dagger within p.
+// z + p, of z2 dagger within p: above 0, and below 2p.
 fn raise(s: Set, z: i8) -> u32
     requires { ⌜ natAbs z < pOf s ⌝ }
     ensures { λ r. ⌜ (pos r ≡ z +ℤ pos (pOf s)) × (r < pOf s + pOf s) ⌝ }
@@ -86,8 +87,8 @@ fn raise(s: Set, z: i8) -> u32
 
 // What the rebuild answers at one place.
 pub fn restored(s: Set, w: u32, z: i8) -> u16
-    requires { ⌜ natAbs z < pOf s ⌝ }
-    ensures { λ r. ⌜ r ≡ restoredOf s (w % twiceModulus) z ⌝ }
+    requires { ⌜ (w < twiceModulus) × (natAbs z < pOf s) ⌝ }
+    ensures { λ r. ⌜ r ≡ restoredOf s w z ⌝ }
 {
     let moved = wrap(s, raise(s, z));
     wrap(s, upper_digits(s, w) + moved) as u16

@@ -1,7 +1,6 @@
-use mathlib.Core.Path.{_≡_, sym, ap₂, _∙_}
+use mathlib.Core.Path.{_≡_, sym, ap, _∙_}
 use mathlib.Core.List.{List}
 use Prim.Native.Nat.{ℕ, _-_, _≤_}
-use native.Mathlib.Nat.{mod-eq-of-lt}
 use native.Mathlib.Omega.{arith}
 use lib.Dec.{lit≤}
 use lib.IntN.{ℤ, pos}
@@ -57,7 +56,7 @@ restored-requires : tie.Need-restored-requires Inv-loop μ-loop
 restored-requires c κs =
     let l = c .before .before .before in
     let s = l .before .before .before in
-    rw (element w8 (getD (Z s) (l .loop .i) (pos 0)) (c .restored-arg .given) .back) (s .pre .1 .1 (l .loop .i))
+    (s .pre .1 .0 (l .loop .i), rw (element w8 (getD (Z s) (l .loop .i) (pos 0)) (c .restored-arg .given) .back) (s .pre .1 .1 (l .loop .i)))
 
 mul-out : tie.Need-mul-out Inv-loop μ-loop
 mul-out c = omega arith
@@ -79,7 +78,7 @@ loop-again c =
       omega arith,
       more (O s) (zipWith (restored (S s)) (W s) (Z s)) (long s) (l .loop .inv .1) 0 _ (omega arith)
           (c .restored .ensures
-          ∙ ap₂ (restored (S s)) (mod-eq-of-lt (s .pre .1 .0 i)) (element w8 (getD (Z s) i (pos 0)) (c .before .restored-arg .given) .back)
+          ∙ ap (restored (S s) (getD (W s) i 0)) (element w8 (getD (Z s) i (pos 0)) (c .before .restored-arg .given) .back)
           ∙ sym (getD-zipWith (restored (S s)) (W s) (Z s) i 0 (pos 0) 0 (omega arith) (omega arith))),
     )
 

@@ -1,15 +1,13 @@
-use mathlib.Core.Path.{_≡_, sym, ap, _∙_}
+use mathlib.Core.Path.{_≡_, sym, _∙_}
 use mathlib.Core.List.{List, map}
-use Prim.Native.Nat.{ℕ, _-_, _%_, _≤_}
-use native.Mathlib.Nat.{mod-eq-of-lt}
+use Prim.Native.Nat.{ℕ, _-_, _≤_}
 use native.Mathlib.Omega.{arith}
-use borrow.Author.Needs.{needs}
 use lib.Dec.{lit≤}
 use lib.ListN.{length, getD, length-map}
 use Rattle.laws.proofs.Entries.{getD-map}
 use Rattle.laws.proofs.Loops.{Rewritten, start, more, finish}
 use Rattle.sets.specs.declared.Set.{Set}
-use Rattle.sets.specs.Numbers.{dimension, twiceModulus}
+use Rattle.sets.specs.Numbers.{dimension}
 use Rattle.sets.proofs.Alike.{p-small}
 use Rattle.rounding.specs.Rounding.{upper}
 use Rattle.rounding.proofs.Digits.{upper-lt}
@@ -47,13 +45,13 @@ shared-slice-read-upper-digits : tie.Need-shared-slice-read-upper-digits Inv-loo
 shared-slice-read-upper-digits c = omega arith
 
 upper-digits-requires : tie.Need-upper-digits-requires Inv-loop μ-loop
-upper-digits-requires c κs = search needs
+upper-digits-requires c κs = c .before .before .before .before .before .pre .2 (c .before .before .loop .i)
 
 cast-out : tie.Need-cast-out Inv-loop μ-loop
 cast-out c =
     let l = c .before .before .before in
     let s = l .before .before .before in
-    omega (arith, c .upper-digits .ensures, upper-lt (S s) (getD (U s) (l .loop .i) 0 % twiceModulus), p-small (S s))
+    omega (arith, c .upper-digits .ensures, upper-lt (S s) (getD (U s) (l .loop .i) 0), p-small (S s))
 
 mul-out : tie.Need-mul-out Inv-loop μ-loop
 mul-out c = omega arith
@@ -74,7 +72,7 @@ loop-again c =
     let i = l .loop .i in (
       omega arith,
       more (O s) (map (upper (S s)) (U s)) (long s) (l .loop .inv .1) 0 _ (omega arith)
-          (c .upper-digits .ensures ∙ ap (upper (S s)) (mod-eq-of-lt (s .pre .2 i)) ∙ sym (getD-map (upper (S s)) (U s) i 0 0 (omega arith))),
+          (c .upper-digits .ensures ∙ sym (getD-map (upper (S s)) (U s) i 0 0 (omega arith))),
     )
 
 same-length : tie.Need-same-length Inv-loop μ-loop

@@ -1,6 +1,5 @@
 use mathlib.Core.Path.{_≡_, ap, _∙_}
-use Prim.Native.Nat.{ℕ, _+_, _-_, _%_, _<_, _≤_}
-use native.Mathlib.Nat.{mod-eq-of-lt}
+use Prim.Native.Nat.{ℕ, _+_, _-_, _<_, _≤_}
 use native.Mathlib.Omega.{arith}
 use borrow.Author.Needs.{needs}
 use lib.Dec.{lit<}
@@ -24,7 +23,7 @@ difference-requires : tie.Need-difference-requires
 difference-requires c κs = search needs
 
 upper-digits-requires-2 : tie.Need-upper-digits-requires-2
-upper-digits-requires-2 c κs = search needs
+upper-digits-requires-2 c κs = rw (c .difference .ensures) (residue-lt (lit< tt) _)
 
 p-requires : tie.Need-p-requires
 p-requires c κs = search needs
@@ -43,13 +42,12 @@ module _ (c : tie.After-p) where
   rest = upper s (residue twiceModulus (pos (start .args .u) -ℤ start .args .z))
 
   whole-is : c .before .before .before .upper-digits .result ≡ whole
-  whole-is = c .before .before .before .upper-digits .ensures ∙ ap (upper s) (mod-eq-of-lt (start .pre))
+  whole-is = c .before .before .before .upper-digits .ensures
 
   rest-is : c .before .upper-digits2 .result ≡ rest
   rest-is =
       c .before .upper-digits2 .ensures
-      ∙ ap (λ (n : ℕ). upper s (n % twiceModulus)) (c .before .before .difference .ensures ∙ ap (λ (z : ℤ). residue twiceModulus (pos (start .args .u) -ℤ z)) (given (start .fits .z) .back))
-      ∙ ap (upper s) (mod-eq-of-lt (residue-lt (lit< tt) (pos (start .args .u) -ℤ start .args .z)))
+      ∙ ap (upper s) (c .before .before .difference .ensures ∙ ap (λ (z : ℤ). residue twiceModulus (pos (start .args .u) -ℤ z)) (given (start .fits .z) .back))
 
   sizes : (whole < pOf s) × (rest < pOf s) × (c .p .result ≡ pOf s) × (pOf s ≤ 96)
   sizes = (upper-lt s _, upper-lt s _, c .p .ensures, p-small s)

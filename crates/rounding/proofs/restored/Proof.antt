@@ -1,11 +1,11 @@
 use mathlib.Core.Path.{_≡_, ap, ap₂, _∙_}
-use Prim.Native.Nat.{ℕ, _+_, _%_, _<_, _≤_}
+use Prim.Native.Nat.{ℕ, _+_, _<_, _≤_}
 use native.Mathlib.Omega.{arith}
 use borrow.Author.Needs.{needs}
 use lib.IntN.{ℤ, pos, _+ℤ_}
 use Rattle.laws.specs.Integers.{residue}
 use Rattle.laws.proofs.Machine.{given}
-use Rattle.sets.specs.Numbers.{twiceModulus, pOf}
+use Rattle.sets.specs.Numbers.{pOf}
 use Rattle.sets.proofs.Alike.{p-small}
 use Rattle.rounding.specs.Rounding.{upper, restored}
 use Rattle.rounding.proofs.Digits.{upper-lt, sum-wraps}
@@ -13,7 +13,7 @@ use Rattle.rounding.proofs.restored.Statement.{statement}
 use Rattle.rounding.proofs.restored.Tie as tie
 
 raise-requires : tie.Need-raise-requires
-raise-requires c κs = rw (given (c .fits .z) .back) (c .pre)
+raise-requires c κs = rw (given (c .fits .z) .back) (c .pre .1)
 
 wrap-requires : tie.Need-wrap-requires
 wrap-requires c κs = search needs
@@ -24,7 +24,7 @@ upper-digits-requires c κs = search needs
 sizes : (c : tie.After-upper-digits) → (c .upper-digits .result < pOf (c .before .before .before .args .s)) × (pOf (c .before .before .before .args .s) ≤ 96)
 sizes c =
     let s = c .before .before .before .args .s in
-    (omega (arith, c .upper-digits .ensures, upper-lt s (c .before .before .before .args .w % twiceModulus)), p-small s)
+    (omega (arith, c .upper-digits .ensures, upper-lt s (c .before .before .before .args .w)), p-small s)
 
 add-wrap : tie.Need-add-wrap
 add-wrap c = omega (arith, sizes c, c .before .wrap .ensures .1)
@@ -44,7 +44,7 @@ returns c =
     raised .ensures .0 ∙ ap (λ (z : ℤ). z +ℤ pos (pOf (a .s))) (given (c .before .before .before .before .fits .z) .back) in
     c .wrap2 .ensures .0
     ∙ ap₂ (λ (x y : ℕ). residue (pOf (a .s)) (pos (x + y))) (c .before .upper-digits .ensures) (c .before .before .wrap .ensures .0)
-    ∙ sum-wraps (a .s) (upper (a .s) (a .w % twiceModulus)) (raised .result) (a .z) e
+    ∙ sum-wraps (a .s) (upper (a .s) (a .w)) (raised .result) (a .z) e
 
 pub restored-spec : {M : Type 1} → statement M
 restored-spec =

@@ -1,9 +1,9 @@
 use mathlib.Core.Path.{_≡_, sym, ap, _∙_}
-use Prim.Native.Nat.{ℕ, _+_, _/_, _%_, _^_, _<_}
+use Prim.Native.Nat.{ℕ, _+_, _/_, _^_}
 use native.Mathlib.Omega.{arith}
 use borrow.Author.Needs.{needs}
 use Rattle.sets.specs.declared.Set.{Set}
-use Rattle.sets.specs.Numbers.{twiceModulus, dOf}
+use Rattle.sets.specs.Numbers.{dOf}
 use Rattle.sets.proofs.Alike.{d-small}
 use Rattle.rounding.proofs.Digits.{upper-last, upper-inner}
 use Rattle.rounding.proofs.upper_digits.Statement.{statement}
@@ -29,25 +29,22 @@ module _ (c : tie.After-p) where
   s = c .before .before .before .args .s
 
   abbrev x : ℕ
-  x = c .before .before .before .args .x % twiceModulus
+  x = c .before .before .before .args .x
 
   steps : (x + c .before .before .step .result / 2) / 2 ^ c .before .d .result ≡ (x + 2 ^ dOf s / 2) / 2 ^ dOf s
   steps =
       ap (λ (n : ℕ). (x + n / 2) / 2 ^ c .before .d .result) (c .before .before .step .ensures)
       ∙ ap (λ (n : ℕ). (x + 2 ^ dOf s / 2) / 2 ^ n) (c .before .d .ensures)
 
-  reduced : x < twiceModulus
-  reduced = omega arith
-
 returns : tie.Need-returns
 returns c =
     let p = c .before in
-    upper-last (s p) (x p) (reduced p) (sym (steps p) ∙ c .if1 .taken ∙ p .p .ensures)
+    upper-last (s p) (x p) (p .before .before .before .pre) (sym (steps p) ∙ c .if1 .taken ∙ p .p .ensures)
 
 returns-2 : tie.Need-returns-2
 returns-2 c =
     let p = c .before in
-    steps p ∙ upper-inner (s p) (x p) (reduced p) (λ e. c .if1 .left (steps p ∙ e ∙ sym (p .p .ensures)))
+    steps p ∙ upper-inner (s p) (x p) (p .before .before .before .pre) (λ e. c .if1 .left (steps p ∙ e ∙ sym (p .p .ensures)))
 
 pub upper-digits-spec : {M : Type 1} → statement M
 upper-digits-spec =
