@@ -11,9 +11,9 @@ use Rattle.laws.proofs.Congruence.{Cong, cong-eq, cong-trans, cong-multiple, re
 use Rattle.laws.proofs.Solver.{v, k, _⊕_, _⊗_, ring}
 use Rattle.sets.specs.declared.Set.{Set}
 use Rattle.sets.specs.Numbers.{twiceModulus, dOf, pOf}
-use Rattle.sets.proofs.Alike.{spread, half-step, step-positive, p-positive, p-even}
+use Rattle.sets.proofs.Alike.{spread, step-positive, p-positive, p-even}
 use Rattle.rounding.specs.Rounding.{upper, centred}
-use Rattle.rounding.proofs.Laws.{upper-below, quotient-nearest, upper-is-nearest, centred-alone}
+use Rattle.rounding.proofs.Laws.{halves, upper-below, quotient-nearest, upper-is-nearest, centred-alone}
 
 pub upper-lt : (s : Set) (x : ℕ) → upper s x < pOf s
 upper-lt = upper-below
@@ -21,15 +21,15 @@ upper-lt = upper-below
 -- the steps of a reduced number are at most p
 module _ (s : Set) (x : ℕ) (small : x < twiceModulus) where
   abbrev steps : ℕ
-  steps = (x + 2 ^ dOf s / 2) / 2 ^ dOf s
+  steps = (x + 2 ^ (dOf s - 1)) / 2 ^ dOf s
 
   steps-le : steps < suc (pOf s)
   steps-le =
       let h : 0 < 2 ^ dOf s = omega (arith, step-positive s) in
-      div-lt-iff-lt-mul h .1 (omega (arith, spread s, step-positive s, suc-mul (pOf s) (2 ^ dOf s)))
+      div-lt-iff-lt-mul h .1 (omega (arith, spread s, step-positive s, halves s, suc-mul (pOf s) (2 ^ dOf s)))
 
   upper-steps : upper s x ≡ steps % pOf s
-  upper-steps = upper-is-nearest s x steps (rw (half-step s) (quotient-nearest s x))
+  upper-steps = upper-is-nearest s x steps (quotient-nearest s x)
 
   -- at p steps the remainder by p is 0
   pub upper-last : steps ≡ pOf s → 0 ≡ upper s x
@@ -41,15 +41,17 @@ module _ (s : Set) (x : ℕ) (small : x < twiceModulus) where
       sym (upper-steps ∙ mod-eq-of-lt h)
 
 -- ---- modulo p
+
+-- a number below 2p, less p where it is not below p
+module _ (p x : ℕ) where
+  pub wrap-low : x < p → x ≡ residue p (pos x)
+  wrap-low h = sym (residue-small x h)
+
+  pub wrap-high : p ≤ x → x < p + p → x - p ≡ residue p (pos x)
+  wrap-high h j =
+      sym (residue-is (omega arith) (record { times = pos 1; eq = eq-out (pos x) (pos (x - p) +ℤ pos p *ℤ pos 1) (omega arith) }) (omega arith))
+
 module _ (s : Set) where
-  -- a number below 2p, less p where it is not below p
-  pub wrap-low : (x : ℕ) → x < pOf s → x ≡ residue (pOf s) (pos x)
-  wrap-low x h = sym (residue-small x h)
-
-  pub wrap-high : (x : ℕ) → pOf s ≤ x → x < pOf s + pOf s → x - pOf s ≡ residue (pOf s) (pos x)
-  wrap-high x h j =
-      sym (residue-is (p-positive s) (record { times = pos 1; eq = eq-out (pos x) (pos (x - pOf s) +ℤ pos (pOf s) *ℤ pos 1) (omega arith) }) (omega arith))
-
   -- a residue, centred
   pub centre-low : (x : ℕ) → x < pOf s / 2 → pos x ≡ centred s (pos x)
   centre-low x h =
