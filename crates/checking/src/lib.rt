@@ -75,8 +75,10 @@ fn restore_all(s: Set, w: &[u32], z2: &[i8], out: &mut [u16])
     requires { ⌜ isReduced (now w) × ((k : ℕ) → natAbs (getD (now z2) k (pos 0)) < pOf s) ⌝ }
     ensures { λ _. ⌜ now (out .exit) ≡ zipWith (restored s) (now (w .entry)) (now (z2 .entry)) ⌝ }
 {
+    let d = s.d();
+    let p = s.p();
     for i in 0..Set::DIMENSION {
-        out[i] = rounding::restored(s, w[i], z2[i]);
+        out[i] = rounding::restored(s, d, p, w[i], z2[i]);
     }
 }
 

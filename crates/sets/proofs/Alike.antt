@@ -49,6 +49,9 @@ p-positive = each _ (lit< tt) (lit< tt) (lit< tt) (lit< tt)
 pub p-small : (s : Set) → pOf s ≤ 96
 p-small = each _ (lit≤ tt) (lit≤ tt) (lit≤ tt) (lit≤ tt)
 
+pub d-at-least-8 : (s : Set) → 8 ≤ dOf s
+d-at-least-8 = each _ (lit≤ tt) (lit≤ tt) (lit≤ tt) (lit≤ tt)
+
 pub d-small : (s : Set) → dOf s ≤ 10
 d-small = each _ (lit≤ tt) (lit≤ tt) (lit≤ tt) (lit≤ tt)
 

@@ -397,8 +397,10 @@ fn make_daggers(s: Set, u: &[u32], z: &[i16], out: &mut [i8])
     requires { ⌜ (length (now u) ≡ dimension) × (length (now z) ≡ dimension) × (length (now out) ≡ dimension) × isReduced (now u) ⌝ }
     ensures { λ _. ⌜ now (out .exit) ≡ daggers s (now (u .entry)) (now (z .entry)) ⌝ }
 {
+    let d = s.d();
+    let p = s.p();
     for i in 0..Set::DIMENSION {
-        out[i] = rounding::dagger(s, u[i], z[i]);
+        out[i] = rounding::dagger(s, d, p, u[i], z[i]);
     }
 }
 
