@@ -3,9 +3,10 @@
 
 mod work;
 
-use second::console::arguments;
 use second::testing::calls::Call;
-use second::{say, warn, Set};
+use second::Set;
+use shell::console::arguments;
+use shell::{say, warn};
 use std::process::{Command, ExitCode};
 use std::time::{Duration, Instant};
 use work::{Side, Work, MEASURED};

@@ -4,7 +4,7 @@
 //! answers on all input, slices of any length included; a refusal leaves every output slice with
 //! the contents it came with.
 
-mod foreign;
+pub mod foreign;
 #[cfg(target_arch = "x86_64")]
 mod linked;
 mod refusal;

@@ -126,7 +126,7 @@ fn entry<T: PartialEq + std::fmt::Display>(name: &str, ours: &[T], theirs: &[T])
 #[cfg(test)]
 mod tests {
     use super::{difference, Left};
-    use crate::faults::right_input;
+    use crate::inputs::right_input;
     use second::testing::calls::{run, Call};
     use second::testing::keys;
     use second::testing::noise::Noise;

@@ -3,7 +3,8 @@
 //! draw; those above are drawn at random. A case is made from the run's seed and its number alone.
 
 use crate::buffers::{difference, Buffers, Left};
-use crate::faults::{faults_of, right_input};
+use crate::faults::faults_of;
+use crate::inputs::right_input;
 use crate::{library, walks};
 use second::record::{total, HEADER};
 use second::testing::calls::{self, Call, Input};
@@ -78,6 +79,21 @@ impl Plan {
     /// The number of cases that are not drawn at random.
     pub fn planned(&self) -> u64 {
         self.planned.len() as u64
+    }
+
+    /// The planned cases that run this call.
+    pub fn about(&self, call: Call) -> Vec<u64> {
+        let about = |planned: &Planned| match planned {
+            Planned::Pair { call: run, .. } => *run == call,
+            Planned::HeaderByte { .. } | Planned::RecordLengths { .. } => {
+                Call::ON_RECORD.contains(&call)
+            }
+            Planned::WordCounts { .. } | Planned::Walks { .. } => call == Call::Respond,
+        };
+        let numbered = self.planned.iter().zip(0..);
+        numbered
+            .filter_map(|(planned, number)| about(planned).then_some(number))
+            .collect()
     }
 
     /// Runs the case of this number.

@@ -1,8 +1,7 @@
 //! The independent second program: the ten calls of paper 01, written from the papers.
 //!
 //! Every product is the plain signed-wrap sum over whole numbers. Nothing is shared with the
-//! proved library: no code, no table, no transform. One module a section of the paper; `console`
-//! and `files` serve the programs.
+//! proved library: no code, no table, no transform. One module a section of the paper.
 //!
 //! No other number than 0 writes to any output buffer: each call works on vectors of its own
 //! and copies them out as its last act.
@@ -10,9 +9,7 @@
 pub mod answers;
 pub mod commitment;
 pub mod comparison;
-pub mod console;
 pub mod draw;
-pub mod files;
 pub mod key;
 pub mod length_rule;
 pub mod parameters;
