@@ -34,6 +34,8 @@ enum Planned {
     WordCounts { set: u32 },
     /// Walks through the draw's four steps that fail at every place in turn.
     Walks { set: u32 },
+    /// The sizes of every number from 0 to 300, and of numbers about powers of two.
+    Sizes,
 }
 
 /// What a case found: the answers, for the tally, and the failures.
@@ -69,6 +71,7 @@ impl Plan {
             planned.extend((0..3).map(|_| Planned::WordCounts { set }));
             planned.push(Planned::Walks { set });
         }
+        planned.push(Planned::Sizes);
         Plan {
             seed,
             planned,
@@ -89,6 +92,7 @@ impl Plan {
                 Call::ON_RECORD.contains(&call)
             }
             Planned::WordCounts { .. } | Planned::Walks { .. } => call == Call::Respond,
+            Planned::Sizes => !call.has_number(),
         };
         let numbered = self.planned.iter().zip(0..);
         numbered
@@ -163,6 +167,19 @@ impl Plan {
                     found.compare(Call::Respond, &input);
                     input.words.pop();
                     found.compare(Call::Respond, &input);
+                }
+            }
+            Planned::Sizes => {
+                found.story = "sizes of sets".to_string();
+                let powers = (8..32).map(|place| 1u32 << place);
+                let about = powers.flat_map(|power| power - 1..=power + 4);
+                for set in (0..=300).chain(about).chain([u32::MAX]) {
+                    let input = Input {
+                        set,
+                        ..Input::default()
+                    };
+                    found.compare(Call::Kappa, &input);
+                    found.compare(Call::RecordBytes, &input);
                 }
             }
         }

@@ -1,4 +1,5 @@
-//! The independent second program: the ten calls of paper 01, written from the papers.
+//! The independent second program: the ten calls of paper 01, written from the papers, and the two
+//! that tell a set's sizes.
 //!
 //! Every product is the plain signed-wrap sum over whole numbers. Nothing is shared with the
 //! proved library: no code, no table, no transform. One module a section of the paper.
@@ -17,6 +18,7 @@ pub mod rebuild;
 pub mod record;
 pub mod response;
 pub mod ring;
+pub mod sizes;
 pub mod testing;
 
 pub use answers::{Reading, Refusal, Response};
@@ -27,3 +29,4 @@ pub use parameters::Set;
 pub use rebuild::rebuild;
 pub use record::{list_section, read, write, z1_section, z2_section};
 pub use response::respond;
+pub use sizes::{kappa, record_bytes};

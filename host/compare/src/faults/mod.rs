@@ -44,7 +44,16 @@ const fn fault(
     Fault { name, calls, apply }
 }
 
-const WITH_SET: &[Call] = &[KeyTest, Commitment, Respond, Rebuild, Compare, Write];
+const WITH_SET: &[Call] = &[
+    KeyTest,
+    Commitment,
+    Respond,
+    Rebuild,
+    Compare,
+    Write,
+    Kappa,
+    RecordBytes,
+];
 const WITH_KEY: &[Call] = &[KeyTest, Respond];
 const WITH_PUBLIC: &[Call] = &[KeyTest, Commitment, Respond, Rebuild];
 const WITH_MASKS: &[Call] = &[Commitment, Respond];

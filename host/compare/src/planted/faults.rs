@@ -25,6 +25,12 @@ pub enum Wrong {
     Start,
     /// A part's length is off by one.
     Length,
+    /// A set's size is off by one.
+    Size,
+    /// A number that is no set has a size.
+    NoSet,
+    /// 0 is no set.
+    Default,
     /// One entry of what is written is off by one.
     Entry(Buffer),
     /// One entry is written on a refusal.
@@ -61,6 +67,9 @@ impl fmt::Display for Wrong {
             Wrong::Set => write!(out, "set off by one"),
             Wrong::Start => write!(out, "start of the part off by one"),
             Wrong::Length => write!(out, "length of the part off by one"),
+            Wrong::Size => write!(out, "off by one"),
+            Wrong::NoSet => write!(out, "told for a number that is no set"),
+            Wrong::Default => write!(out, "not told for 0"),
             Wrong::Entry(buffer) => write!(out, "an entry of {buffer} off"),
             Wrong::Refused(buffer) => write!(out, "an entry of {buffer} written on a refusal"),
             Wrong::Tail(buffer) => write!(out, "the tail of {buffer} written"),
@@ -94,6 +103,9 @@ fn written(call: Call) -> &'static [Buffer] {
 
 /// What can be wrong with a call.
 fn wrongs(call: Call) -> Vec<Wrong> {
+    if !call.has_number() {
+        return vec![Wrong::Size, Wrong::NoSet, Wrong::Default];
+    }
     let mut wrongs = Vec::new();
     for &number in call.numbers() {
         if number != 0 {

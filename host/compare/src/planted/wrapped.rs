@@ -61,7 +61,6 @@ impl Answered {
             Some(Wrong::Entry(wrong)) if wrong == buffer && done => 0,
             Some(Wrong::Refused(wrong)) if wrong == buffer && !done && length > 0 => 0,
             Some(Wrong::Before(wrong)) if wrong == buffer && done => -1,
-            // No record is as long as its buffer and five, and no list but set 4's fills its own.
             Some(Wrong::Tail(wrong)) if wrong == buffer && done && has_tail(buffer, length) => {
                 length as isize - 1
             }
@@ -234,4 +233,32 @@ wrapped_section!(
     ListSection,
     __wrap_bursztok_list_section,
     __real_bursztok_list_section
+);
+
+macro_rules! wrapped_size {
+    ($call:ident, $wrap:ident, $real:ident) => {
+        extern "C" {
+            fn $real(set: u32) -> u32;
+        }
+
+        /// # Safety
+        /// None is needed: no pointer is passed.
+        #[no_mangle]
+        pub unsafe extern "C" fn $wrap(set: u32) -> u32 {
+            let size = unsafe { $real(set) };
+            match wrong_with(Call::$call) {
+                Some(Wrong::Size) if size != 0 => size + 1,
+                Some(Wrong::NoSet) if size == 0 => 1,
+                Some(Wrong::Default) if set == 0 => 0,
+                _ => size,
+            }
+        }
+    };
+}
+
+wrapped_size!(Kappa, __wrap_bursztok_kappa, __real_bursztok_kappa);
+wrapped_size!(
+    RecordBytes,
+    __wrap_bursztok_record_bytes,
+    __real_bursztok_record_bytes
 );
