@@ -78,6 +78,9 @@
 extern "C" {
 #endif
 
+/* The version of this header and of the library that it belongs to. */
+#define BURSZTOK_VERSION "0.1.0"
+
 /* The length of every vector. */
 #define BURSZTOK_VECTOR 512
 /* The length of the row of thresholds. */

@@ -21,6 +21,8 @@ use Rattle.bursztok.proofs.bursztok_read.Reads as read
 use Rattle.bursztok.proofs.bursztok_z1_section.Reads as z1-section
 use Rattle.bursztok.proofs.bursztok_z2_section.Reads as z2-section
 use Rattle.bursztok.proofs.bursztok_list_section.Reads as list-section
+use Rattle.bursztok.proofs.bursztok_kappa.Reads as kappa
+use Rattle.bursztok.proofs.bursztok_record_bytes.Reads as record-bytes
 
 -- what an export leaves behind is all in one value
 one-left : {r r′ : Answer} {l l′ : List ℕ} (w : Left) → left r l ≡ w → left r′ l′ ≡ w → (r ≡ r′) × (l ≡ l′)
@@ -78,3 +80,9 @@ z2-section-determined κs a r r′ s s′ p q = one-located _ p q
 pub list-section-determined : (κs : Lfts 3) (a : _) (r r′ : _) (s s′ : _) → list-section.Post κs a r s → list-section.Post κs a r′ s′
     → (r ≡ r′) × (now (section-number s) ≡ now (section-number s′)) × (now (section-place s) ≡ now (section-place s′))
 list-section-determined κs a r r′ s s′ p q = one-located _ p q
+
+pub kappa-determined : (κs : Lfts 0) (a : _) (r r′ : _) (s s′ : _) → kappa.Post κs a r s → kappa.Post κs a r′ s′ → r ≡ r′
+kappa-determined κs a r r′ s s′ p q = p ∙ sym q
+
+pub record-bytes-determined : (κs : Lfts 0) (a : _) (r r′ : _) (s s′ : _) → record-bytes.Post κs a r s → record-bytes.Post κs a r′ s′ → r ≡ r′
+record-bytes-determined κs a r r′ s s′ p q = p ∙ sym q

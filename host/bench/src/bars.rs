@@ -2,7 +2,8 @@
 //! signer of strongSwan 5.9.8, compiled with -O3, which multiplies and chooses the same way.
 
 use crate::callgrind::{self, Count};
-use second::{say, warn, Set};
+use second::Set;
+use shell::{say, warn};
 use std::path::Path;
 use std::process::ExitCode;
 

@@ -5,9 +5,10 @@ mod bars;
 mod callgrind;
 mod work;
 
-use second::console::arguments;
 use second::testing::calls::Call;
-use second::{say, warn, Set};
+use second::Set;
+use shell::console::arguments;
+use shell::{say, warn};
 use std::path::PathBuf;
 use std::process::ExitCode;
 use std::time::{Duration, Instant};

@@ -4,11 +4,11 @@
 mod options;
 
 use compare::cases::{Found, Plan};
+use compare::run::{run, run_case};
 use compare::tally::Tally;
 use options::Options;
-use second::console::{arguments, print};
-use second::{say, warn};
-use std::panic::{catch_unwind, AssertUnwindSafe};
+use shell::console::{arguments, print};
+use shell::{say, warn};
 use std::process::ExitCode;
 use std::time::{Duration, Instant};
 
@@ -21,89 +21,77 @@ fn main() -> ExitCode {
         say!("{}", options::USAGE);
         return ExitCode::SUCCESS;
     }
-    match Options::parse(&words) {
-        Ok(options) => run(&options),
-        Err(message) => bad(&message),
-    }
-}
-
-fn bad(message: &str) -> ExitCode {
-    warn!("compare: {message}; try --help");
-    ExitCode::from(2)
-}
-
-fn run(options: &Options) -> ExitCode {
+    let options = match Options::parse(&words) {
+        Ok(options) => options,
+        Err(message) => return bad(&message),
+    };
     let mut plan = Plan::new(options.seed);
     if plan.planned().checked_add(options.cases).is_none() {
         return bad(&format!("--cases is {}, too many to count", options.cases));
     }
     say!("seed {}", options.seed);
+    let (passed, failed) = match options.only {
+        Some(number) => run_one(options.seed, &mut plan, number),
+        None => run_all(&options, &mut plan),
+    };
+    say!("{passed} passed, {failed} failed");
+    ExitCode::from(u8::from(failed > 0))
+}
+
+fn bad(message: &str) -> ExitCode {
+    warn!("{message}");
+    ExitCode::from(2)
+}
+
+/// One case, which reaches the numbers that it reaches.
+fn run_one(seed: u64, plan: &mut Plan, number: u64) -> (u64, u64) {
+    let found = run_case(plan, number);
+    say!("case {number}: {}", found.story);
+    tell(seed, number, &found);
     let mut tally = Tally::default();
-    match options.only {
-        Some(number) => {
-            let found = run_case(&mut plan, number);
-            say!("case {number}: {}", found.story);
-            tell(options.seed, number, &found, &mut tally);
-        }
-        None => run_all(options, &mut plan, &mut tally),
-    }
-    if options.only.is_none() {
-        print(format_args!("{}", tally.table()));
-        tally.require_every_number();
-    }
-    for number in &tally.missing {
-        say!("not reached: {number}");
-    }
-    say!("{} passed, {} failed", tally.passed, tally.failed());
-    if tally.failed() == 0 {
-        ExitCode::SUCCESS
-    } else {
-        ExitCode::from(1)
-    }
+    tally.add(&found);
+    (tally.compared() - tally.wrong(), tally.wrong())
 }
 
 /// The planned cases, then random ones until the count or the time is reached.
-fn run_all(options: &Options, plan: &mut Plan, tally: &mut Tally) {
+fn run_all(options: &Options, plan: &mut Plan) -> (u64, u64) {
     let start = Instant::now();
     let mut shown = start;
     let planned = plan.planned();
     say!("{planned} planned cases, then {}", options.extent());
-    for number in 0.. {
-        let enough = match options.seconds {
-            Some(seconds) => start.elapsed() >= Duration::from_secs(seconds),
-            None => number >= planned + options.cases,
+    let numbers = (0..).take_while(|&number| {
+        let more = match options.seconds {
+            Some(seconds) => start.elapsed() < Duration::from_secs(seconds),
+            None => number < planned + options.cases,
         };
-        if enough && number >= planned {
-            break;
+        more || number < planned
+    });
+    let tally = run(plan, numbers, |number, found, tally| {
+        if !found.failures.is_empty() && tally.failing_cases() <= TOLD {
+            tell(options.seed, number, found);
         }
-        let found = run_case(plan, number);
-        tell(options.seed, number, &found, tally);
         if shown.elapsed() >= Duration::from_secs(2) {
             shown = Instant::now();
             warn!(
                 "{} cases, {} calls compared, {} failed, {} s",
                 number + 1,
-                tally.passed + tally.wrong,
-                tally.wrong,
+                tally.compared(),
+                tally.wrong(),
                 start.elapsed().as_secs()
             );
         }
+    });
+    print(format_args!("{}", tally.table()));
+    let verdict = tally.verdict();
+    for number in &verdict.missing {
+        say!("not reached: {number}");
     }
+    (verdict.passed, verdict.failed)
 }
 
-/// Runs a case; a panic on either side is a failure of the case.
-fn run_case(plan: &mut Plan, number: u64) -> Found {
-    catch_unwind(AssertUnwindSafe(|| plan.run(number))).unwrap_or_else(|_| Found {
-        story: "it panicked".to_string(),
-        failures: vec!["the case panicked; see above".to_string()],
-        ..Found::default()
-    })
-}
-
-/// Counts what a case found, and tells how to repeat it where it failed.
-fn tell(seed: u64, number: u64, found: &Found, tally: &mut Tally) {
-    tally.add(found);
-    if found.failures.is_empty() || tally.failing_cases > TOLD {
+/// Tells how a case failed, and how to repeat it.
+fn tell(seed: u64, number: u64, found: &Found) {
+    if found.failures.is_empty() {
         return;
     }
     say!("FAILED case {number}: {}", found.story);

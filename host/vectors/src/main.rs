@@ -1,8 +1,8 @@
 //! Writes the file of vectors, or replays one. Its format stands in the library's comment.
 
-use second::console::arguments;
-use second::files::write_file;
-use second::{say, warn};
+use shell::console::arguments;
+use shell::files::write_file;
+use shell::{say, warn};
 use std::path::Path;
 use std::process::ExitCode;
 use vectors::Fault;

@@ -1,0 +1,115 @@
+//! Shows that the comparison can fail: the library with one fault planted must be caught, for
+//! each of the faults by name.
+//!
+//! The faults are planted at the calls of the C library, below the bindings and the comparison, so
+//! that a comparison which does not use the library catches none of them.
+
+mod faults;
+#[cfg(target_arch = "x86_64")]
+mod wrapped;
+
+use compare::cases::Plan;
+use compare::run::{run, run_case};
+use faults::{plant, Planted};
+use second::testing::calls::Call;
+use shell::console::arguments;
+use shell::{say, warn};
+use std::process::ExitCode;
+
+const USAGE: &str = "\
+bursztok-planted [--list]
+
+Plants one fault after the other in the library's calls and compares them with the second program:
+each fault must be caught, and the case that caught it must pass without the fault. Then a run that
+never reaches some number of a call must fail.
+
+  --list  only the names of the faults
+
+The last line is 'N passed, M failed'. Exit status: 0 all caught, 1 some not, 2 bad usage.";
+
+const SEED: u64 = 1;
+
+fn main() -> ExitCode {
+    match arguments().join(" ").as_str() {
+        "" => {}
+        "--help" | "-h" => {
+            say!("{USAGE}");
+            return ExitCode::SUCCESS;
+        }
+        "--list" => {
+            for fault in faults::all() {
+                say!("{}", fault.name());
+            }
+            return ExitCode::SUCCESS;
+        }
+        _ => {
+            warn!("bursztok-planted takes no such words; try --help");
+            return ExitCode::from(2);
+        }
+    }
+    if !cfg!(target_arch = "x86_64") {
+        warn!("the library is not linked on this machine: no fault can be planted");
+        return ExitCode::from(2);
+    }
+    let mut plan = Plan::new(SEED);
+    let faults = faults::all();
+    let caught = faults
+        .iter()
+        .filter(|fault| try_fault(&mut plan, fault))
+        .count();
+    say!("{caught} of {} planted faults caught", faults.len());
+    let unreached = try_unreached(&mut plan);
+    let (passed, failed) = (
+        caught + usize::from(unreached),
+        faults.len() - caught + usize::from(!unreached),
+    );
+    say!("{passed} passed, {failed} failed");
+    ExitCode::from(u8::from(failed > 0))
+}
+
+/// Whether the fault is caught, by a case that passes without it.
+fn try_fault(plan: &mut Plan, fault: &Planted) -> bool {
+    for number in plan.about(fault.call) {
+        plant(Some(*fault));
+        let found = run_case(plan, number);
+        plant(None);
+        if found.failures.is_empty() {
+            continue;
+        }
+        let without = run_case(plan, number);
+        let name = fault.name();
+        return match without.failures.first() {
+            None => {
+                say!("caught      {name}: case {number}, {}", found.story);
+                true
+            }
+            Some(failure) => {
+                say!("NOT SHOWN   {name}: case {number} fails without it, {failure}");
+                false
+            }
+        };
+    }
+    say!("NOT CAUGHT  {}", fault.name());
+    false
+}
+
+/// Whether a run fails that has no fault, and for every call but one reaches all its numbers.
+fn try_unreached(plan: &mut Plan) -> bool {
+    let mut noticed = true;
+    for left_out in Call::ALL {
+        let others = Call::ALL.into_iter().filter(|&call| call != left_out);
+        let numbers = others.flat_map(|call| plan.about(call).into_iter().take(3));
+        let numbers: Vec<u64> = numbers.collect();
+        let verdict = run(plan, numbers.into_iter(), |_, _, _| {}).verdict();
+        let name = left_out.name();
+        let missing = |&number: &u32| verdict.missing.contains(&format!("{name}, {number}"));
+        if verdict.failed == 0 || !left_out.numbers().iter().all(missing) {
+            say!("NOT CAUGHT  a run without the {name}: {verdict:?}");
+            noticed = false;
+        }
+    }
+    if noticed {
+        say!("caught      numbers that a run never reaches");
+    }
+    noticed
+}
