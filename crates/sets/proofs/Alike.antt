@@ -25,7 +25,6 @@ p-is-quotient = each _ refl refl refl refl
 pub spread : (s : Set) → pOf s * 2 ^ dOf s + 2 ≡ twiceModulus
 spread = each _ refl refl refl refl
 
--- half a step is 2^(d-1)
 pub step-small : (s : Set) → 2 ^ dOf s ≤ 1024
 step-small = each _ (lit≤ tt) (lit≤ tt) (lit≤ tt) (lit≤ tt)
 
