@@ -44,12 +44,11 @@ example: lib ## compiles and runs examples/sheet.c
 	@tools/x86-64 compile target/sheet examples/sheet.c $(LIBRARY)
 	@tools/x86-64 run target/sheet
 
-bench: cargo lib ## calls a second beside the second program, and instructions by callgrind (on x86-64)
+bench: cargo lib ## calls a second beside the second program; instructions by callgrind beside their bars (on x86-64)
 	@tools/x86-64 here || { echo "not an x86-64 machine: the library runs under an emulator here, and what is measured would say nothing"; exit 1; }
 	@$(RUN) bursztok-bench
-	@$(RUN) bursztok-bench -- --instructions
 	@"$(RT)" check ring_bench choices_bench
-	@tools/instructions
+	@$(RUN) bursztok-bench -- --bars ../target/bin
 
 soak: cargo lib ## random cases of the library against the second program for TIME seconds
 	@$(RUN) bursztok-compare -- --seconds $(TIME)
