@@ -96,7 +96,7 @@ pub fn proper_key(s: Set, a: &[u16], spectrum: &[u16], s1: &[i16], s2: &[i16]) -
     Outcome::Done
 }
 
-// Whether t is s modulo q, place by place. As with a range test, no loop is left early.
+// Whether t is s modulo q, place by place. Not left early, as a range test is not.
 fn are_residues(t: &[u16], s: &[i16]) -> bool
     requires { ⌜ (length (now t) ≡ dimension) × (length (now s) ≡ dimension) × (every (within 5) (now s) ≡ true) ⌝ }
     ensures { λ r. ⌜ r ≡ same (now (t .entry)) (map (residueOf modulus) (now (s .entry))) ⌝ }

@@ -37,8 +37,7 @@ fn wide_rule(s: Set, z1: &[i16], z2: &[i16]) -> Outcome
     Outcome::Done
 }
 
-// The first entry whose size times the factor is above the limit, if there is one. Its place is counted from `start`, and looked for only where the range
-// test, which is quicker, has said that there is one.
+// The limit on every entry's size times the factor. A range test is quicker than the search for a place, which is left for where there is one.
 fn test_entries(x: &[i16], limit: u32, factor: u32, start: u32) -> Outcome
     requires { ⌜ (length (now x) ≡ dimension) × (1 ≤ factor) × (factor ≤ 2 ^ 10) × (start ≤ dimension) ⌝ }
     ensures { λ r. ⌜ r ≡ entries limit factor start (now (x .entry)) Done ⌝ }
@@ -49,6 +48,7 @@ fn test_entries(x: &[i16], limit: u32, factor: u32, start: u32) -> Outcome
     first_beyond(x, limit, factor, start)
 }
 
+// The first entry whose size times the factor is above the limit, if there is one. Its place is counted from `start`.
 fn first_beyond(x: &[i16], limit: u32, factor: u32, start: u32) -> Outcome
     requires { ⌜ (length (now x) ≡ dimension) × (factor ≤ 2 ^ 10) × (start ≤ dimension) ⌝ }
     ensures { λ r. ⌜ r ≡ entries limit factor start (now (x .entry)) Done ⌝ }

@@ -1,6 +1,6 @@
 // Vectors of whole numbers, and the form of a challenge list (01, "Key, commitment, response, rebuild").
-// A vector of bytes is widened first: everything else is for i16 alone. Sums and copies are loops with a fixed count and no branch, which the compiler
-// turns into instructions on several entries at a time.
+// A vector of bytes is widened first: everything else is for i16 alone. Sums and copies are loops with a fixed count and no branch, range tests loops that
+// are not left early, which the compiler turns into instructions on several entries at a time.
 ghost use mathlib.Core.Path.{_≡_};
 ghost use mathlib.Core.Bool.{true, _&&_};
 ghost use mathlib.Core.List.{map};
@@ -67,7 +67,7 @@ fn is_rising(list: &[u16]) -> bool
 
 // ---- ranges
 
-// Whether every entry is below a bound. A range test goes through all entries and leaves no loop early: the compiler then tests several at a time.
+// Whether every entry is below a bound.
 pub fn all_below(a: &[u16], bound: u16) -> bool
     ensures { λ r. ⌜ r ≡ every (below bound) (now (a .entry)) ⌝ }
 {
