@@ -2,23 +2,22 @@
 -- no premise on its entries. Assumes nothing.
 use mathlib.Core.Path.{_≡_, sym}
 use mathlib.Core.Bool.{true}
-use Prim.Native.Nat.{ℕ}
-use borrow.Author.Tests.{lt-ltb}
 use denote.Ref.{now}
 use Rattle.laws.specs.Lists.{every}
-use Rattle.laws.proofs.Entries.{every-of}
 use Rattle.answers.specs.Outcomes.{numberOf}
 use Rattle.byte_codes.specs.Bytes.{isByte}
+use Rattle.records.proofs.Owned.{fit-bytes}
 use Rattle.records.proofs.RoundTrip.{WritesBack, read-writes}
 use Rattle.records.proofs.read.Reads as read
 use Rattle.records.proofs.read.Tie as tie
 
--- a call of the reader: its arguments, and what the check reads there off the lent `&[u8]`, that each entry fits 8 bits
+-- a call of the reader: its arguments, and what the check reads off the lent `&[u8]` where the body begins, that each entry fits 8 bits (`Owned` has that
+-- from the ownership alone)
 abbrev pub Call : Type 0
 Call = tie.After-shared-slice-known
 
 pub lent-bytes : (c : Call) → every isByte (now (c .before .args .rec)) ≡ true
-lent-bytes c = every-of isByte (now (c .before .args .rec)) 0 (λ k h. lt-ltb _ _ (c .shared-slice-known .given k .fits))
+lent-bytes c = fit-bytes (now (c .before .args .rec)) (c .shared-slice-known .given)
 
 -- whatever the contract admits of such a call, if its number is 0
 pub lent-read-writes : (c : Call) (r : _) (s : _)
