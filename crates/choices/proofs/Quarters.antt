@@ -28,7 +28,7 @@ part-long : (start : ℕ) → start + 128 ≤ dimension → (x : List ℤ) → l
 part-long start inside x lx = length-take-le 128 (drop start x) (omega (arith, length-drop start x))
 
 module _ (a b : List ℤ) (la : length a ≡ dimension) (lb : length b ≡ dimension) (start : ℕ) (inside : start + 128 ≤ dimension) where
-  pub inner-parts : inner (take (start + 128) a) (take (start + 128) b) ≡ inner (take start a) (take start b) +ℤ inner (part start a) (part start b)
+  inner-parts : inner (take (start + 128) a) (take (start + 128) b) ≡ inner (take start a) (take start b) +ℤ inner (part start a) (part start b)
   inner-parts =
       rw (take-add start 128 a, take-add start 128 b)
       (inner-append (take start a) (take start b) (part start a) (part start b)

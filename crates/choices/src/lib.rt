@@ -27,11 +27,19 @@ pub fn choose(s1: &[i16], s2: &[i16], list: &[u16], v1: &mut [i16], v2: &mut [i1
     vectors::mirror(s2, &mut double2);
     let mut k = 0;
     while k < list.len() {
-        let start = Set::DIMENSION - list[k] as usize;
+        let start = column_start(list[k]);
         let end = start + Set::DIMENSION;
         step(v1, v2, &double1[start..end], &double2[start..end]);
         k += 1;
     }
+}
+
+// Where the column x^i s starts in the doubled vector.
+fn column_start(place: u16) -> usize
+    requires { ⌜ place < dimension ⌝ }
+    ensures { λ r. ⌜ r + place ≡ dimension ⌝ }
+{
+    Set::DIMENSION - place as usize
 }
 
 // One column: added where the inner product is negative, subtracted where it is zero or more. An entry of v is at most a column's for each place.

@@ -1,13 +1,12 @@
-use mathlib.Core.Path.{_≡_, sym, _∙_, ap₂}
+use mathlib.Core.Path.{_≡_, sym, _∙_}
 use mathlib.Core.List.{List}
 use Prim.Native.Nat.{_+_, _*_, _-_, _<_, _≤_}
 use native.Mathlib.Omega.{arith}
 use lib.Dec.{lit≤}
-use lib.IntN.{ℤ, pos, natAbs, _+ℤ_, _*ℤ_}
+use lib.IntN.{ℤ, pos, natAbs, _*ℤ_}
 use lib.ListN.{length, getD}
 use mir.Syntax.{w16}
 use mir.Val.{toZ, ofZ}
-use Rattle.laws.specs.Lists.{zipWith}
 use Rattle.laws.proofs.Bounds.{abs-mul}
 use Rattle.laws.proofs.Loops.{Rewritten, start, next-is, more, finish}
 use Rattle.laws.proofs.Machine.{Reads, element, mul-ok, mul-is, add-ok, add-is}

@@ -1,4 +1,4 @@
-use mathlib.Core.Path.{_≡_, refl, sym, _∙_, ap}
+use mathlib.Core.Path.{_≡_, sym, _∙_, ap}
 use Prim.Native.Nat.{ℕ, _+_, _*_, _-_, _≤_}
 use native.Mathlib.Nat.{mul-le-mul}
 use native.Mathlib.Omega.{arith}
@@ -8,18 +8,13 @@ use lib.ListN.{getD}
 use mir.Syntax.{w32}
 use Rattle.laws.proofs.Machine.{element}
 use Rattle.sets.specs.Numbers.{listLimit}
-use Rattle.vectors.specs.Pairs.{Pair, pair, innerPair}
+use Rattle.vectors.specs.Pairs.{Pair, pair}
 use Rattle.vectors.specs.Vectors.{inner}
 use Rattle.vectors.proofs.Ranges.{within-at}
 use Rattle.choices.proofs.Pairs.{Sized}
 use Rattle.choices.proofs.Quarters.{part, Gathered, front, gathered-none, gathered-more, gathered-as, front-more, front-all}
-use borrow.Author.Needs.{needs}
 use Rattle.choices.proofs.inner_product.Statement.{statement}
 use Rattle.choices.proofs.inner_product.Tie as tie
-use Rattle.choices.proofs.inner_product.Reads as reads
-use Rattle.choices.proofs.inner_product.Lts as lts
-use Rattle.choices.proofs.gather.Reads as gather-reads
-use Rattle.choices.proofs.total.Reads as total-reads
 
 -- the size of a product of an entry of v and one of a column
 abbrev most : ℕ

@@ -1,5 +1,5 @@
-use mathlib.Core.Path.{_≡_, refl, sym, _∙_, ap, ap₂}
-use mathlib.Core.Bool.{Bool, true}
+use mathlib.Core.Path.{_≡_, _∙_, ap, ap₂}
+use mathlib.Core.Bool.{true}
 use mathlib.Core.List.{List}
 use Prim.Native.Nat.{ℕ, _+_, _*_, _<_}
 use native.Mathlib.Omega.{arith}
@@ -8,9 +8,9 @@ use lib.IntN.{ℤ, pos, natAbs}
 use lib.ListN.{getD}
 use lib.Signed.{ltZ}
 use mir.Syntax.{w32}
-use mir.Val.{toZ, ofZ}
+use mir.Val.{ofZ}
 use Rattle.laws.specs.Lists.{every, zipWith}
-use Rattle.laws.proofs.Machine.{Reads, element, held, lt-is}
+use Rattle.laws.proofs.Machine.{Reads, element}
 use Rattle.sets.specs.Numbers.{listLimit}
 use Rattle.vectors.specs.Vectors.{within}
 use Rattle.vectors.proofs.Ranges.{within-at}
