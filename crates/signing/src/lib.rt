@@ -282,7 +282,7 @@ fn mask(y: &[i16], v: &[i16], sign: bool, z: &mut [i16])
 }
 
 // kappa K minus the squared length of v, which is never negative.
-fn first_trial(s: Set, v1: &[i16], v2: &[i16]) -> u32
+pub fn first_trial(s: Set, v1: &[i16], v2: &[i16]) -> u32
     requires { ⌜ (length (now v1) ≡ dimension) × (length (now v2) ≡ dimension) × (squares (now v1) + squares (now v2) ≤ kappaOf s * keyLimitOf s) ⌝ }
     ensures { λ r. ⌜ r ≡ firstTrial s (pair (now (v1 .entry)) (now (v2 .entry))) ⌝ }
 {
@@ -291,7 +291,7 @@ fn first_trial(s: Set, v1: &[i16], v2: &[i16]) -> u32
 }
 
 // Twice the absolute value of the inner product of z and v.
-fn second_trial(z1: &[i16], z2: &[i16], v1: &[i16], v2: &[i16]) -> u32
+pub fn second_trial(z1: &[i16], z2: &[i16], v1: &[i16], v2: &[i16]) -> u32
     requires { ⌜ (length (now z1) ≡ dimension) × (length (now z2) ≡ dimension) × (length (now v1) ≡ dimension) × (length (now v2) ≡ dimension) ⌝ }
     requires { ⌜ sizes (now z1) (now v1) + sizes (now z2) (now v2) < 2 ^ 30 ⌝ }
     ensures { λ r. ⌜ r ≡ secondTrial (pair (now (z1 .entry)) (now (z2 .entry))) (pair (now (v1 .entry)) (now (v2 .entry))) ⌝ }
