@@ -262,16 +262,19 @@ fn a_record_is_refused_with_its_file_and_its_fault() {
     );
     let place = ": entry 22 of the list is ";
     refused(&with(1605, 0xff), "number 5, place 0", place);
-    // A file of gigabytes is not read: 13 comes at once.
-    let file = File::create(&bad).unwrap();
-    file.set_len(5 << 30).unwrap();
-    expect(&["inspect", &bad], 1, "number 13, place 0");
-    let mut head = right.clone();
-    head.resize(4096, 0);
-    std::fs::write(&bad, &head).unwrap();
+    // A file of gigabytes is not read whole: half a gigabyte of memory is enough.
     let file = File::options().write(true).open(&bad).unwrap();
+    std::fs::write(&bad, &right).unwrap();
     file.set_len(5 << 30).unwrap();
-    expect(&["inspect", &bad], 1, "5368709120 bytes, set 1 has 1606");
+    let output = Command::new("sh")
+        .args(["-c", "ulimit -v 500000; exec \"$0\" inspect \"$1\""])
+        .arg(env!("CARGO_BIN_EXE_bursztok"))
+        .arg(&bad)
+        .output()
+        .unwrap();
+    assert_eq!(output.status.code(), Some(1));
+    let said = String::from_utf8(output.stderr).unwrap();
+    assert!(said.contains("5368709120 bytes, set 1 has 1606"), "{said}");
 }
 
 #[test]
@@ -493,4 +496,10 @@ fn the_version_is_the_headers() {
     let version = env!("CARGO_PKG_VERSION");
     assert!(header.contains(&format!("#define BURSZTOK_VERSION \"{version}\"\n")));
     expect(&["--version"], 0, &format!("bursztok {version}\n"));
+    let page = include_str!("../../../docs/bursztok.1");
+    assert!(page.contains(&format!("\"bursztok {version}\"")));
+    for subcommand in SUBCOMMANDS {
+        let line = format!("\n.B {}", subcommand.replace('-', "\\-"));
+        assert!(page.contains(&line), "{subcommand}");
+    }
 }

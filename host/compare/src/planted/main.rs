@@ -28,6 +28,8 @@ never reaches some number of a call must fail.
 The last line is 'N passed, M failed'. Exit status: 0 all caught, 1 some not, 2 bad usage.";
 
 const SEED: u64 = 1;
+/// So many faults that are not caught end the run: each goes through all cases of its call.
+const ENOUGH: usize = 3;
 
 fn main() -> ExitCode {
     match arguments().join(" ").as_str() {
@@ -53,10 +55,14 @@ fn main() -> ExitCode {
     }
     let mut plan = Plan::new(SEED);
     let faults = faults::all();
-    let caught = faults
-        .iter()
-        .filter(|fault| try_fault(&mut plan, fault))
-        .count();
+    let mut caught = 0;
+    for (tried, fault) in faults.iter().enumerate() {
+        caught += usize::from(try_fault(&mut plan, fault));
+        if tried + 1 - caught == ENOUGH {
+            say!("{ENOUGH} faults were not caught: the others are left out");
+            break;
+        }
+    }
     say!("{caught} of {} planted faults caught", faults.len());
     let unreached = try_unreached(&mut plan);
     let (passed, failed) = (
