@@ -13,6 +13,7 @@ use compare::run::{run, run_case};
 use faults::{plant, Planted};
 use second::testing::calls::Call;
 use shell::console::arguments;
+use shell::options::{Form, Options};
 use shell::{say, warn};
 use std::process::ExitCode;
 
@@ -27,25 +28,33 @@ never reaches some number of a call must fail.
 
 The last line is 'N passed, M failed'. Exit status: 0 all caught, 1 some not, 2 bad usage.";
 
+const FORM: Form = Form {
+    name: "bursztok-planted",
+    values: &[],
+    flags: &["list"],
+    words: &[],
+};
+
 const SEED: u64 = 1;
 /// So many faults that are not caught end the run: each goes through all cases of its call.
 const ENOUGH: usize = 3;
 
 fn main() -> ExitCode {
-    match arguments().join(" ").as_str() {
-        "" => {}
-        "--help" | "-h" => {
-            say!("{USAGE}");
-            return ExitCode::SUCCESS;
-        }
-        "--list" => {
+    let words = arguments();
+    if words.iter().any(|word| word == "--help" || word == "-h") {
+        say!("{USAGE}");
+        return ExitCode::SUCCESS;
+    }
+    match Options::parse(FORM, &words) {
+        Ok(options) if options.has("list") => {
             for fault in faults::all() {
                 say!("{}", fault.name());
             }
             return ExitCode::SUCCESS;
         }
-        _ => {
-            warn!("bursztok-planted takes no such words; try --help");
+        Ok(_) => {}
+        Err(message) => {
+            warn!("{message}");
             return ExitCode::from(2);
         }
     }
