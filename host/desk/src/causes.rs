@@ -140,7 +140,7 @@ fn difference(list: &Vector, hashed: &Vector) -> Option<String> {
     let mut pairs = list.numbers.iter().zip(&hashed.numbers).enumerate();
     let (at, (claimed, found)) = pairs.find(|(_, (claimed, found))| claimed != found)?;
     Some(format!(
-        "{} claims another list than {}: entry {at} is {claimed} there, {found} here",
+        "the list in {} and {} differ: entry {at} is {claimed} and {found}",
         list.source, hashed.source
     ))
 }
@@ -226,7 +226,7 @@ mod tests {
         lent.add("hashed", "hashed.txt".to_string(), &places, None);
         let falls = "hashed.txt: entry 22 of the list is 21, after 21; it has to rise";
         assert_eq!(causes(5, 0, &lent), [falls]);
-        let differ = "list.txt claims another list than hashed.txt: entry 22 is 22 there, 21 here";
+        let differ = "the list in list.txt and hashed.txt differ: entry 22 is 22 and 21";
         assert_eq!(causes(12, 0, &lent), [differ]);
     }
 }

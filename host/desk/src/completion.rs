@@ -30,17 +30,17 @@ fn bash() -> String {
 _bursztok() {{
     local word=${{COMP_WORDS[COMP_CWORD]}} options=''
     if [ \"$COMP_CWORD\" -eq 1 ]; then
-        COMPREPLY=($(compgen -W '{} help --help --version' -- \"$word\"))
+        mapfile -t COMPREPLY < <(compgen -W '{} help --help --version' -- \"$word\")
         return
     fi
     case ${{COMP_WORDS[1]}} in
         help) options='{}' ;;
 {cases}    esac
     case $word in
-        -*) COMPREPLY=($(compgen -W \"$options\" -- \"$word\")) ;;
+        -*) mapfile -t COMPREPLY < <(compgen -W \"$options\" -- \"$word\") ;;
         *)
-            COMPREPLY=($(compgen -f -- \"$word\"))
-            [ \"${{COMP_WORDS[1]}}\" != help ] || COMPREPLY=($(compgen -W \"$options\" -- \"$word\"))
+            mapfile -t COMPREPLY < <(compgen -f -- \"$word\")
+            [ \"${{COMP_WORDS[1]}}\" != help ] || mapfile -t COMPREPLY < <(compgen -W \"$options\" -- \"$word\")
             ;;
     esac
 }}

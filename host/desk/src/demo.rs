@@ -296,7 +296,7 @@ fn sign_and_check_many(
     sheets: u64,
     mut sign: impl FnMut(&str) -> Result<(Vec<u8>, u64), Failure>,
 ) -> Result<u64, Failure> {
-    let mut shown = Instant::now();
+    let (mut shown, mut progress) = (Instant::now(), false);
     let mut tries = 0;
     for done in 0..sheets {
         let sheet = format!("{SHEET} Sheet {done}.");
@@ -304,11 +304,13 @@ fn sign_and_check_many(
         tries += taken;
         check(set, key, &read_record(&record)?, &sheet)?;
         if shown.elapsed() > Duration::from_millis(500) {
-            shown = Instant::now();
+            (shown, progress) = (Instant::now(), true);
             print_error(format_args!("\r   {} of {sheets} ", done + 1));
         }
     }
-    print_error(format_args!("\r{:30}\r", ""));
+    if progress {
+        print_error(format_args!("\r{:30}\r", ""));
+    }
     Ok(tries)
 }
 

@@ -32,8 +32,9 @@ fn main() -> ExitCode {
     let json = words.iter().any(|word| word == "--json");
     run(&words).unwrap_or_else(|failure| {
         if json {
+            let code = failure.exit_code();
             say!("{}", json_of(&Err(failure)));
-            return ExitCode::from(2);
+            return code;
         }
         tell(failure)
     })
