@@ -13,10 +13,7 @@ use Rattle.sets.specs.declared.Set.{Set}
 use Rattle.sets.specs.Numbers.{twiceModulus, dOf, pOf}
 use Rattle.sets.proofs.Alike.{spread, step-at-least-256, p-positive, p-even}
 use Rattle.rounding.specs.Rounding.{upper, centred}
-use Rattle.rounding.proofs.Laws.{halves, upper-below, quotient-nearest, upper-is-nearest, centred-alone}
-
-pub upper-lt : (s : Set) (x : ℕ) → upper s x < pOf s
-upper-lt = upper-below
+use Rattle.rounding.proofs.Laws.{halves, quotient-nearest, upper-is-nearest, centred-alone}
 
 -- the steps of a reduced number are at most p
 module _ (s : Set) (x : ℕ) (small : x < twiceModulus) where

@@ -11,7 +11,7 @@ use Rattle.sets.specs.declared.Set.{Set}
 use Rattle.sets.specs.Numbers.{dimension}
 use Rattle.sets.proofs.Alike.{p-small}
 use Rattle.rounding.specs.Rounding.{upper}
-use Rattle.rounding.proofs.Digits.{upper-lt}
+use Rattle.rounding.proofs.Laws.{upper-below}
 use Rattle.commitment.proofs.round.Statement.{statement}
 use Rattle.commitment.proofs.round.Tie as tie
 
@@ -60,7 +60,7 @@ cast-out : tie.Need-cast-out Inv-loop μ-loop
 cast-out c =
     let l = c .before .before .before in
     let s = l .before .before .before .before .before in
-    omega (arith, c .upper-digits .ensures, upper-lt (S s) (getD (U s) (l .loop .i) 0), p-small (S s))
+    omega (arith, c .upper-digits .ensures, upper-below (S s) (getD (U s) (l .loop .i) 0), p-small (S s))
 
 mul-out : tie.Need-mul-out Inv-loop μ-loop
 mul-out c = omega arith

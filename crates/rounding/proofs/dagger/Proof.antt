@@ -12,7 +12,8 @@ use Rattle.sets.specs.declared.Set.{Set}
 use Rattle.sets.specs.Numbers.{twiceModulus, pOf}
 use Rattle.sets.proofs.Alike.{p-small}
 use Rattle.rounding.specs.Rounding.{upper, centred, dagger}
-use Rattle.rounding.proofs.Digits.{upper-lt, centred-same, difference-wraps}
+use Rattle.rounding.proofs.Laws.{upper-below}
+use Rattle.rounding.proofs.Digits.{centred-same, difference-wraps}
 use Rattle.rounding.proofs.dagger.Statement.{statement}
 use Rattle.rounding.proofs.dagger.Tie as tie
 
@@ -50,7 +51,7 @@ module _ (c : tie.After-upper-digits2) where
 
   sizes : (whole < pOf s) × (rest < pOf s) × (start .args .p ≡ pOf s) × (pOf s ≤ 96)
   sizes =
-      (omega (arith, c .before .before .upper-digits .ensures, upper-lt s (start .args .u)), omega (arith, rest-is, upper-lt s below), start .pre .1, p-small s)
+      (omega (arith, c .before .before .upper-digits .ensures, upper-below s (start .args .u)), omega (arith, rest-is, upper-below s below), start .pre .1, p-small s)
 
 add-wrap : tie.Need-add-wrap
 add-wrap c = omega (arith, sizes c)

@@ -8,7 +8,8 @@ use Rattle.laws.proofs.Machine.{given}
 use Rattle.sets.specs.Numbers.{pOf}
 use Rattle.sets.proofs.Alike.{p-small}
 use Rattle.rounding.specs.Rounding.{upper, restored}
-use Rattle.rounding.proofs.Digits.{upper-lt, sum-wraps}
+use Rattle.rounding.proofs.Laws.{upper-below}
+use Rattle.rounding.proofs.Digits.{sum-wraps}
 use Rattle.rounding.proofs.restored.Statement.{statement}
 use Rattle.rounding.proofs.restored.Tie as tie
 
@@ -30,7 +31,7 @@ module _ (c : tie.After-upper-digits) where
   sizes =
       let s = start .args .s in
       let e = start .pre .1 in
-      (omega (arith, e, c .upper-digits .ensures, upper-lt s (start .args .w)), c .before .wrap .ensures .1, omega (arith, e, p-small s))
+      (omega (arith, e, c .upper-digits .ensures, upper-below s (start .args .w)), c .before .wrap .ensures .1, omega (arith, e, p-small s))
 
 add-wrap : tie.Need-add-wrap
 add-wrap c = omega (arith, sizes c)
