@@ -19,12 +19,14 @@ use std::process::ExitCode;
 
 const USAGE: &str = "\
 bursztok-planted [--list]
+bursztok-planted --fault NAME [WORD..]
 
 Plants one fault after the other in the library's calls and compares them with the second program:
 each fault must be caught, and the case that caught it must pass without the fault. Then a run that
 never reaches some number of a call must fail.
 
-  --list  only the names of the faults
+  --list        only the names of the faults
+  --fault NAME  plants this fault and is bursztok-compare, with the words that follow
 
 The last line is 'N passed, M failed'. Exit status: 0 all caught, 1 some not, 2 bad usage.";
 
@@ -44,6 +46,11 @@ fn main() -> ExitCode {
     if words.iter().any(|word| word == "--help" || word == "-h") {
         say!("{USAGE}");
         return ExitCode::SUCCESS;
+    }
+    if let [option, name, rest @ ..] = &words[..] {
+        if option == "--fault" {
+            return compare_with(name, rest);
+        }
     }
     match Options::parse(FORM, &words) {
         Ok(options) if options.has("list") => {
@@ -80,6 +87,17 @@ fn main() -> ExitCode {
     );
     say!("{passed} passed, {failed} failed");
     ExitCode::from(u8::from(failed > 0))
+}
+
+/// The comparison as it is run, with a fault in the library.
+fn compare_with(name: &str, words: &[String]) -> ExitCode {
+    let fault = faults::all().into_iter().find(|fault| fault.name() == name);
+    if fault.is_none() {
+        warn!("bursztok-planted: '{name}' is no fault; try --list");
+        return ExitCode::from(2);
+    }
+    plant(fault);
+    compare::program::main(words)
 }
 
 /// Whether the fault is caught, by a case that passes without it.
