@@ -25,7 +25,7 @@ pub fn print(counts: &[u32])
     text(b" failed\n");
 }
 
-// What the checker says of the signatures that were given out.
+// What the checker says of the signatures that are given out to buffers of 512 entries: the responses that were refused for a buffer's length alone are among them.
 pub fn checker(said: &[u32])
     requires { ⌜ length (now said) ≡ 4 ⌝ }
 {
