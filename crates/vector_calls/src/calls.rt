@@ -2,12 +2,12 @@
 ghost use mathlib.Core.Path.{_≡_};
 ghost use Prim.Native.Nat.{_<_};
 ghost use lib.ListN.{length};
-use crate::answers::Asked;
-use crate::answers::is_left;
-use crate::answers::is_wanted;
 use crate::slots;
 use crate::slots::ENTRIES;
 use crate::slots::length_of;
+use crate::wanted::Asked;
+use crate::wanted::is_left;
+use crate::wanted::is_wanted;
 use bursztok::Answer;
 use bursztok::Part;
 use bursztok::Reading;
@@ -16,15 +16,16 @@ use lending::first_long;
 use lending::first_narrow;
 use lending::first_whole;
 use lending::first_wide;
+use sets::Set;
 
-// The call of this number, 1 to 10.
-pub fn call(memory: &[u8], which: u8, k: Asked) -> bool
+// The call of this number, 1 to 10. Of a signature that is given out it counts in `said` what the checker says.
+pub fn call(memory: &[u8], which: u8, k: Asked, said: &mut [u32]) -> bool
     requires { ⌜ length (now memory) ≡ 36864 ⌝ }
 {
     match which {
         1 => key_test(memory, k),
         2 => commitment(memory, k),
-        3 => respond(memory, k),
+        3 => respond(memory, k, said),
         4 => rebuild(memory, k),
         5 => comparison(memory, k),
         6 => write(memory, k),
@@ -102,29 +103,43 @@ fn twice(count: u16) -> usize {
     2 * (count as usize)
 }
 
-fn respond(memory: &[u8], k: Asked) -> bool
+fn respond(memory: &[u8], k: Asked, said: &mut [u32]) -> bool
     requires { ⌜ length (now memory) ≡ 36864 ⌝ }
 {
     let mut z1 = [wide_fill(k.fill); ENTRIES];
     let mut z2 = [byte_codes::signed8(k.fill); ENTRIES];
-    if !is_responded(memory, k, &mut z1, &mut z2) {
+    if !is_responded(memory, k, &mut z1, &mut z2, said) {
         return false;
     }
     is_pair(memory, k, &z1, &z2)
 }
 
-fn is_responded(memory: &[u8], k: Asked, z1: &mut [i16], z2: &mut [i8]) -> bool
+fn is_responded(memory: &[u8], k: Asked, z1: &mut [i16], z2: &mut [i8], said: &mut [u32]) -> bool
     requires { ⌜ length (now memory) ≡ 36864 ⌝ }
 {
     let f = slots::narrow(memory, 1);
     let g = slots::narrow(memory, 2);
-    let a = slots::whole(memory, 3);
-    let list = slots::whole(memory, 6);
     let f_lent = first_narrow(&f, length_of(memory, 1));
     let g_lent = first_narrow(&g, length_of(memory, 2));
+    is_keyed(memory, k, f_lent, g_lent, z1, z2, said)
+}
+
+fn is_keyed(
+    memory: &[u8],
+    k: Asked,
+    f: &[i8],
+    g: &[i8],
+    z1: &mut [i16],
+    z2: &mut [i8],
+    said: &mut [u32],
+) -> bool
+    requires { ⌜ length (now memory) ≡ 36864 ⌝ }
+{
+    let a = slots::whole(memory, 3);
+    let list = slots::whole(memory, 6);
     let a_lent = first_whole(&a, length_of(memory, 3));
     let list_lent = first_whole(&list, length_of(memory, 6));
-    is_drawn(memory, k, f_lent, g_lent, a_lent, list_lent, z1, z2)
+    is_drawn(memory, k, f, g, a_lent, list_lent, z1, z2, said)
 }
 
 fn is_drawn(
@@ -136,6 +151,7 @@ fn is_drawn(
     list: &[u16],
     z1: &mut [i16],
     z2: &mut [i8],
+    said: &mut [u32],
 ) -> bool
     requires { ⌜ length (now memory) ≡ 36864 ⌝ }
 {
@@ -147,6 +163,18 @@ fn is_drawn(
     let y2_lent = first_wide(&y2, length_of(memory, 5));
     let thresholds_lent = first_long(&thresholds, length_of(memory, 8));
     let words_lent = first_long(&words, length_of(memory, 9));
+    checked(
+        k,
+        f,
+        g,
+        a,
+        y1_lent,
+        y2_lent,
+        list,
+        thresholds_lent,
+        words_lent,
+        said,
+    );
     is_given_out(
         k,
         f,
@@ -162,7 +190,7 @@ fn is_drawn(
     )
 }
 
-// Whether the response is the wanted one, and what it gives out is accepted.
+// Whether the response is the wanted one.
 fn is_given_out(
     k: Asked,
     f: &[i8],
@@ -197,10 +225,71 @@ fn is_given_out(
     if !is_wanted(r.number, r.place, k) {
         return false;
     }
-    if r.words != k.words {
-        return false;
+    r.words == k.words
+}
+
+// Signer and checker: of what is sent, what the checker says of the record, and of the record with the first byte of z1 changed.
+fn checked(
+    k: Asked,
+    f: &[i8],
+    g: &[i8],
+    a: &[u16],
+    y1: &[i16],
+    y2: &[i16],
+    list: &[u16],
+    thresholds: &[u64],
+    words: &[u64],
+    said: &mut [u32],
+) {
+    let mut rec = [0u8; Set::RECORD_LIMIT];
+    let mut committed = [0u16; Set::DIMENSION];
+    let r = agreement::send(
+        k.set,
+        f,
+        g,
+        a,
+        y1,
+        y2,
+        list,
+        k.sign,
+        thresholds,
+        words,
+        &mut rec,
+        &mut committed,
+    );
+    let outcome = r.outcome;
+    if !outcome.is_done() {
+        return;
     }
-    agreement::agrees(k.set, f, g, a, y1, y2, list, k.sign, thresholds, words)
+    let total = total_of(k.set);
+    let as_sent = agreement::accepts(a, first_bytes(&rec, total), &committed);
+    count(said, as_sent, 0, 1);
+    rec[24] = std::num::wrapping_add_u8(rec[24], 1);
+    let changed = agreement::accepts(a, first_bytes(&rec, total), &committed);
+    count(said, changed, 2, 3);
+}
+
+// Yes is counted at one place, and no at another.
+fn count(said: &mut [u32], answer: bool, yes: usize, no: usize) {
+    if answer {
+        add(said, yes);
+    } else {
+        add(said, no);
+    }
+}
+
+fn add(said: &mut [u32], at: usize) {
+    if at < said.len() {
+        said[at] = std::num::wrapping_add_u32(said[at], 1);
+    }
+}
+
+// The bytes of a record of the set that a number stands for, and 0 where there is none.
+fn total_of(set: u32) -> usize {
+    match Set::asked(set) {
+        sets::Asked::Unknown => 0,
+        sets::Asked::Known(s) => s.total(),
+    }
 }
 
 fn rebuild(memory: &[u8], k: Asked) -> bool

@@ -1,4 +1,5 @@
 // For the program replay: the second program's vectors lie in slots, and each call is made on them and held to what is wanted.
-pub mod answers;
+
 pub mod calls;
 pub mod slots;
+pub mod wanted;
