@@ -150,6 +150,28 @@ mod tests {
         assert_eq!(Refusal::outcome(0, 7), Err(unlisted));
     }
 
+    #[test]
+    fn the_headers_numbers_are_the_papers() {
+        let header = include_str!("../../../include/bursztok.h");
+        let numbers = header.split("enum bursztok_number {").nth(1).unwrap();
+        let numbers = numbers.split("};").next().unwrap();
+        let values: Vec<&str> = numbers
+            .split(',')
+            .map(|line| line.split(" = ").nth(1).unwrap().trim())
+            .collect();
+        let wanted: Vec<String> = (0..=14).map(|number| number.to_string()).collect();
+        assert_eq!(values, wanted);
+        for (name, number) in [
+            ("DONE", 0),
+            ("KEY_RELATION", 6),
+            ("REJECTED", 8),
+            ("ENTRY", 10),
+            ("HEADER", 13),
+        ] {
+            assert!(numbers.contains(&format!("BURSZTOK_{name} = {number}")));
+        }
+    }
+
     /// "Numbers that come back", word for word.
     const WORDS: [&str; 14] = [
         "set above 4",
