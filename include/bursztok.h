@@ -18,9 +18,10 @@
  *   The library keeps no pointer, allocates nothing and holds no state between calls, so any calls
  *   may run on several threads at once, as long as none writes to memory that another uses.
  *
- *   Stack that a call takes at most, in bytes, over all sets (measured, x86-64):
- *     respond 15,856    rebuild 9,232    commitment 8,144    key test 8,112
- *     read 2,856        write 1,208      each other call under 100
+ *   Stack that a call takes at most, in bytes, its arguments included, the same for all sets
+ *   (measured by painting, x86-64, rounded up to hundreds):
+ *     respond 15,700    rebuild 8,800    commitment 7,700    key test 7,700
+ *     read 3,000        write 1,300      each other call under 400
  *
  * ANSWERS
  *
