@@ -1,9 +1,13 @@
 // The five calls on records of every set: a header damaged byte by byte, every length, entries at the limits and past them, improper lists, buffers of the
-// wrong length. A line for each case: the number and the place, the set that the reader answers, and checksums of what the output or the buffers hold afterwards.
+// wrong length. A line for each call: what it is lent, the number and the place, the set that the reader answers, and a checksum of what the output, the buffers or
+// the section holds afterwards.
 ghost use mathlib.Core.Path.{_≡_};
 ghost use lib.ListN.{length};
 use answers::Outcome;
 use libc::STDOUT_FILENO;
+use record_forms::LIST_OFFSET;
+use record_forms::Z1_OFFSET;
+use record_forms::Z2_OFFSET;
 use sets::Asked;
 use sets::Set;
 
@@ -113,8 +117,9 @@ fn places_of(x: u16) -> [u16; 50]
     [x; 50]
 }
 
-// Sets 0 to 5, with lists of 23, 30 and 39 places each: the record, and what it reads as.
+// Sets 0 to 5, with lists as long as those of sets 1, 3 and 4: the record, and what it reads as.
 fn every_set() {
+    print(b"---- sets 0 to 5, lists of three lengths\n");
     for_set(0);
     for_set(1);
     for_set(2);
@@ -124,15 +129,16 @@ fn every_set() {
 }
 
 fn for_set(set: u32) {
-    sample(set, 23, 1700);
-    sample(set, 30, 1700);
-    sample(set, 39, 1700);
+    sample(set, 1, 1700);
+    sample(set, 3, 1700);
+    sample(set, 4, 1700);
 }
 
 // A record of set 1 with one byte more by 1, for each byte of the header; then 0 and 3 for the set.
 fn header_bytes() {
+    print(b"---- a record of set 1, one byte of its header more by a number\n");
     let mut rec = bytes_of(0);
-    fill(1, 23, &mut rec);
+    fill(1, &mut rec);
     damage(&mut rec[0..1606]);
 }
 
@@ -152,43 +158,67 @@ fn each_byte(rec: &mut [u8]) {
 
 // A record of sets 1, 3 and 4 in a longer slice, of which the first 0, 1, 2, .. bytes are lent: a line where the answer changes.
 fn every_length() {
-    each_length(1, 23);
-    each_length(3, 30);
-    each_length(4, 39);
+    print(b"---- the first bytes of a record: where the answer changes\n");
+    each_length(1);
+    each_length(3);
+    each_length(4);
 }
 
 // "largest" and one more, either way, and the sum.
 fn limits() {
-    one_entry(1, 0, 2100, 23);
-    one_entry(1, 0, 2101, 23);
-    one_entry(1, 511, -2100, 23);
-    one_entry(1, 511, -2101, 23);
-    one_entry(2, 7, 1563, 23);
-    one_entry(2, 7, -1564, 23);
-    one_entry(3, 8, -1760, 30);
-    one_entry(3, 8, 1761, 30);
-    one_entry(4, 9, 1613, 39);
-    one_entry(4, 9, -1614, 39);
-    one_entry(4, 9, 32767, 39);
-    one_entry(4, 9, -32768, 39);
-    one_rounded(1, 0, 2, 23);
-    one_rounded(1, 0, 3, 23);
-    one_rounded(2, 1, -1, 23);
-    one_rounded(2, 1, -2, 23);
-    one_rounded(3, 511, -3, 30);
-    one_rounded(3, 511, -4, 30);
-    one_rounded(4, 511, 6, 39);
-    one_rounded(4, 511, 7, 39);
-    one_rounded(4, 510, 127, 39);
-    one_rounded(4, 510, -128, 39);
-    alike(1, 568, 512, 512, 23, 1700);
-    alike(1, 569, 512, 512, 23, 1700);
-    alike(4, 437, 512, 512, 39, 1700);
-    alike(4, 438, 512, 512, 39, 1700);
+    print(b"---- one entry that is not 0, by the writer and in a record that was not written so\n");
+    entries();
+    entries_of_sets();
+    rounded();
+    rounded_of_sets();
+    print(b"---- the sum of squares\n");
+    sums();
+}
+
+fn entries() {
+    one_entry(1, 0, 2100);
+    one_entry(1, 0, 2101);
+    one_entry(1, 511, -2100);
+    one_entry(1, 511, -2101);
+    one_entry(2, 7, 1563);
+    one_entry(2, 7, -1564);
+}
+
+fn entries_of_sets() {
+    one_entry(3, 8, -1760);
+    one_entry(3, 8, 1761);
+    one_entry(4, 9, 1613);
+    one_entry(4, 9, -1614);
+    one_entry(4, 9, 32767);
+    one_entry(4, 9, -32768);
+}
+
+fn rounded() {
+    one_rounded(1, 0, 2);
+    one_rounded(1, 0, 3);
+    one_rounded(2, 1, -1);
+    one_rounded(2, 1, -2);
+    one_rounded(3, 511, -3);
+}
+
+fn rounded_of_sets() {
+    one_rounded(3, 511, -4);
+    one_rounded(4, 511, 6);
+    one_rounded(4, 511, 7);
+    one_rounded(4, 510, 127);
+    one_rounded(4, 510, -128);
+}
+
+fn sums() {
+    alike(1, 568, 512, 512, 1, 1700);
+    alike(1, 569, 512, 512, 1, 1700);
+    alike(4, 437, 512, 512, 4, 1700);
+    alike(4, 438, 512, 512, 4, 1700);
 }
 
 // One place of the list of set 1 changed: at the bounds, repeated, falling, too large.
 fn lists() {
+    print(b"---- one place of the list of set 1 changed\n");
     one_place(0, 0);
     one_place(0, 16);
     one_place(1, 3);
@@ -202,33 +232,37 @@ fn lists() {
 
 // Vectors and outputs one entry short or long, and refusals whose conditions hold together.
 fn buffers() {
+    print(b"---- vectors one entry short or long\n");
     vectors_short_or_long();
+    print(b"---- outputs short, just long enough and longer\n");
     outputs();
+    print(b"---- conditions of several refusals together\n");
     first_refusals();
+    print(b"---- the reader's buffers one entry short or long\n");
     reader_buffers();
 }
 
 fn vectors_short_or_long() {
-    alike(1, 7, 511, 512, 23, 1700);
-    alike(1, 7, 513, 512, 23, 1700);
-    alike(1, 7, 512, 511, 23, 1700);
-    alike(1, 7, 512, 513, 23, 1700);
+    alike(1, 7, 511, 512, 1, 1700);
+    alike(1, 7, 513, 512, 1, 1700);
+    alike(1, 7, 512, 511, 1, 1700);
+    alike(1, 7, 512, 513, 1, 1700);
 }
 
 fn outputs() {
-    sample(1, 23, 0);
-    sample(1, 23, 1605);
-    sample(1, 23, 1606);
-    sample(4, 39, 1637);
-    sample(4, 39, 1638);
+    sample(1, 1, 0);
+    sample(1, 1, 1605);
+    sample(1, 1, 1606);
+    sample(4, 4, 1637);
+    sample(4, 4, 1638);
 }
 
-// 1 before 2, 2 before 5, 5 before 10, 10 before 14.
+// 1 before 2, 2 before 5, 5 before 10, 10 before 14: a list of set 3 is no list of set 1.
 fn first_refusals() {
-    alike(5, 7, 511, 512, 22, 0);
-    alike(1, 7, 511, 512, 22, 0);
-    alike(1, 2101, 512, 512, 22, 0);
-    alike(1, 2101, 512, 512, 23, 0);
+    alike(5, 7, 511, 512, 3, 0);
+    alike(1, 7, 511, 512, 3, 0);
+    alike(1, 2101, 512, 512, 3, 0);
+    alike(1, 2101, 512, 512, 1, 0);
 }
 
 // Each of the reader's buffers short and long, with a good record; and 2 before 13.
@@ -245,32 +279,42 @@ fn reader_buffers() {
 
 // ---- one case
 
-// The record of the two vectors and of the first places.
-fn fill(set: u32, count: usize, out: &mut [u8]) {
+// The record of the two vectors and of the set's list.
+fn fill(set: u32, out: &mut [u8]) {
     let list = places();
     records::write(
         set,
         &first_vector(),
         &second_vector(),
-        first_places(&list, count),
+        first_places(&list, kappa_of(set)),
         out,
     );
 }
 
-fn sample(set: u32, count: usize, room: usize) {
+fn sample(set: u32, list_of: u32, room: usize) {
     writing(
         set,
         &first_vector(),
         &second_vector(),
         &places(),
-        count,
+        kappa_of(list_of),
         room,
     );
 }
 
 // z1 as n1 times the same number, z2 dagger as n2 zeros.
-fn alike(set: u32, x: i16, n1: usize, n2: usize, count: usize, room: usize) {
-    parts(set, &wide_of(x), n1, &narrow_of(0), n2, count, room);
+fn alike(set: u32, x: i16, n1: usize, n2: usize, list_of: u32, room: usize) {
+    signed16(b"every entry of z1 is ", x);
+    print(b"\n");
+    parts(
+        set,
+        &wide_of(x),
+        n1,
+        &narrow_of(0),
+        n2,
+        kappa_of(list_of),
+        room,
+    );
 }
 
 // The first entries of each.
@@ -284,25 +328,24 @@ fn parts(set: u32, z1: &[i16], n1: usize, z2: &[i8], n2: usize, count: usize, ro
 
 fn with_buffers(lent: usize, n1: usize, n2: usize, n3: usize) {
     let mut rec = bytes_of(0);
-    fill(2, 23, &mut rec);
+    fill(2, &mut rec);
     reading(front(&rec, lent), n1, n2, n3);
 }
 
 // Writes to the front of 1,700 bytes of 165, of which `room` are lent; then reads as many of them as the set's total.
 fn writing(set: u32, z1: &[i16], z2: &[i8], list: &[u16], count: usize, room: usize) {
     let mut space = bytes_of(165);
-    print(b"write ");
-    number(set as u64);
-    number(z1.len() as u64);
-    number(z2.len() as u64);
-    number(count as u64);
-    number(room as u64);
+    number(b"write: set ", set as u64);
+    number(b", z1 of ", z1.len() as u64);
+    number(b", z2 dagger of ", z2.len() as u64);
+    number(b", list of ", count as u64);
+    number(b", output of ", room as u64);
     show(write_room(set, z1, z2, first_places(list, count), room, &mut space));
     checked(set, &space);
 }
 
 fn checked(set: u32, space: &[u8]) {
-    number(sum(space));
+    number(b"; output sums to ", sum(space));
     print(b"\n");
     let rec = front(space, total_of(set));
     reading(rec, 512, 512, 39);
@@ -339,7 +382,14 @@ fn front<'a>(bytes: &'a [u8], n: usize) -> &'a [u8] {
     }
 }
 
-// The total of the set that a number stands for, and 0 where there is none.
+// Of the set that a number stands for, and 0 where there is none.
+fn kappa_of(set: u32) -> usize {
+    match Set::asked(set) {
+        Asked::Unknown => 0,
+        Asked::Known(s) => s.kappa(),
+    }
+}
+
 fn total_of(set: u32) -> usize {
     match Set::asked(set) {
         Asked::Unknown => 0,
@@ -352,10 +402,12 @@ fn reading(rec: &[u8], n1: usize, n2: usize, n3: usize) {
     let mut z1 = wide_of(-1);
     let mut z2 = narrow_of(-1);
     let mut list = places_of(999);
-    print(b"read ");
-    number(rec.len() as u64);
+    number(b"  read ", rec.len() as u64);
+    number(b" bytes, z1 of ", n1 as u64);
+    number(b", z2 dagger of ", n2 as u64);
+    number(b", list of ", n3 as u64);
     read_to(rec, &mut z1, n1, &mut z2, n2, &mut list, n3);
-    number(buffer_sum(&z1, &z2, &list));
+    number(b"; buffers sum to ", buffer_sum(&z1, &z2, &list));
     print(b"\n");
 }
 
@@ -375,7 +427,7 @@ fn read_to(
                 let o = r.outcome;
                 show(o);
                 let set = r.set;
-                number(set as u64);
+                number(b", set ", set as u64);
             }
         }
     }
@@ -384,30 +436,28 @@ fn read_to(
 fn sections(rec: &[u8]) {
     let mut n = 99;
     let mut place = 99;
-    print(b"sections");
     let z1 = records::z1_section(rec, &mut n, &mut place);
-    part(z1, n, place);
+    part(b"  z1 section", z1, n, place);
     let z2 = records::z2_section(rec, &mut n, &mut place);
-    part(z2, n, place);
+    part(b"; z2 dagger section", z2, n, place);
     let list = records::list_section(rec, &mut n, &mut place);
-    part(list, n, place);
+    part(b"; list section", list, n, place);
     print(b"\n");
 }
 
-fn part(bytes: &[u8], n: u32, place: u32) {
-    print(b" ");
-    number(n as u64);
-    number(place as u64);
-    number(bytes.len() as u64);
-    number(sum(bytes));
+fn part(text: &[u8], bytes: &[u8], n: u32, place: u32) {
+    print(text);
+    number(b" answers ", n as u64);
+    number(b" at ", place as u64);
+    number(b", bytes ", bytes.len() as u64);
+    number(b" sum to ", sum(bytes));
 }
 
 // A byte of the record made larger by a number, modulo 256; then the byte is put back.
 fn more_by(rec: &mut [u8], at: usize, by: u8) {
     if at < rec.len() {
-        print(b"byte ");
-        number(at as u64);
-        number(by as u64);
+        number(b"byte ", at as u64);
+        number(b" more by ", by as u64);
         print(b"\n");
         let old = rec[at];
         rec[at] = std::num::wrapping_add_u8(old, by);
@@ -418,37 +468,53 @@ fn more_by(rec: &mut [u8], at: usize, by: u8) {
 }
 
 // One entry that is not 0, by the writer; and the same in a record that was not written so.
-fn one_entry(set: u32, at: usize, value: i16, kappa: usize) {
+fn one_entry(set: u32, at: usize, value: i16) {
     if at < 512 {
+        number(b"z1 entry ", at as u64);
+        signed16(b" is ", value);
+        print(b"\n");
         let mut z1 = wide_of(0);
         z1[at] = value;
-        parts(set, &z1, 512, &narrow_of(0), 512, kappa, 1700);
-        raw(set, kappa, 24 + 2 * at, byte_codes::bits16(value));
+        parts(set, &z1, 512, &narrow_of(0), 512, kappa_of(set), 1700);
+        raw(set, Z1_OFFSET + 2 * at, byte_codes::bits16(value));
     }
 }
 
-fn one_rounded(set: u32, at: usize, value: i8, kappa: usize) {
+fn one_rounded(set: u32, at: usize, value: i8) {
     if at < 512 {
+        number(b"z2 dagger entry ", at as u64);
+        signed8(b" is ", value);
+        print(b"\n");
         let mut z2 = narrow_of(0);
         z2[at] = value;
-        parts(set, &wide_of(0), 512, &z2, 512, kappa, 1700);
-        raw(set, kappa, 1048 + at, byte_codes::bits8(value) as u16);
+        parts(set, &wide_of(0), 512, &z2, 512, kappa_of(set), 1700);
+        raw(set, Z2_OFFSET + at, byte_codes::bits8(value) as u16);
     }
 }
 
 fn one_place(at: usize, place: u16) {
     let mut list = places();
     if at < 39 {
+        number(b"list entry ", at as u64);
+        number(b" is ", place as u64);
+        print(b"\n");
         list[at] = place;
-        writing(1, &first_vector(), &second_vector(), &list, 23, 1700);
-        raw(1, 23, 1560 + 2 * at, place);
+        writing(
+            1,
+            &first_vector(),
+            &second_vector(),
+            &list,
+            kappa_of(1),
+            1700,
+        );
+        raw(1, LIST_OFFSET + 2 * at, place);
     }
 }
 
 // The record of a set, with two of its bytes changed.
-fn raw(set: u32, kappa: usize, at: usize, x: u16) {
+fn raw(set: u32, at: usize, x: u16) {
     let mut rec = bytes_of(0);
-    fill(set, kappa, &mut rec);
+    fill(set, &mut rec);
     change(&mut rec, at, x);
     reading(front(&rec, total_of(set)), 512, 512, 39);
 }
@@ -461,9 +527,9 @@ fn change(rec: &mut [u8], at: usize, x: u16) {
     }
 }
 
-fn each_length(set: u32, kappa: usize) {
+fn each_length(set: u32) {
     let mut rec = bytes_of(0);
-    fill(set, kappa, &mut rec);
+    fill(set, &mut rec);
     from_nothing(&rec);
 }
 
@@ -484,8 +550,8 @@ fn at_length(rec: &[u8], n: usize, last: u64) -> u64 {
     let bytes = records::list_section(lent, &mut k, &mut place);
     let now = (k as u64) * 65536 + (place as u64) % 65536;
     if now != last {
-        print(b"length");
-        part(bytes, k, place);
+        number(b"first bytes: ", n as u64);
+        part(b"; list section", bytes, k, place);
         print(b"\n");
         reading(lent, 512, 512, 39);
     }
@@ -498,14 +564,35 @@ fn print(text: &[u8]) {
     io::write_all(STDOUT_FILENO, text);
 }
 
-fn number(n: u64) {
+fn number(text: &[u8], n: u64) {
+    print(text);
     io::print_decimal(STDOUT_FILENO, n);
-    print(b" ");
+}
+
+// A signed number, from its two's complement.
+fn signed16(text: &[u8], x: i16) {
+    let bits = byte_codes::bits16(x) as u64;
+    if bits < 32768 {
+        number(text, bits);
+    } else {
+        print(text);
+        number(b"-", 65536 - bits);
+    }
+}
+
+fn signed8(text: &[u8], x: i8) {
+    let bits = byte_codes::bits8(x) as u64;
+    if bits < 128 {
+        number(text, bits);
+    } else {
+        print(text);
+        number(b"-", 256 - bits);
+    }
 }
 
 fn show(o: Outcome) {
-    number(o.number() as u64);
-    number(o.place() as u64);
+    number(b": answers ", o.number() as u64);
+    number(b" at ", o.place() as u64);
 }
 
 fn sum(bytes: &[u8]) -> u64 {

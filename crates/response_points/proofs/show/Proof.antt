@@ -1,11 +1,9 @@
-use Prim.Native.Nat.{_+_, _*_, _^_, _<_, _≤_}
+use mathlib.Core.List.{List}
+use Prim.Native.Nat.{ℕ, _+_, _*_, _^_, _<_, _≤_}
 use native.Mathlib.Omega.{arith}
 use borrow.Author.Needs.{needs}
-use lib.IntN.{pos, natAbs}
+use lib.IntN.{ℤ, pos, natAbs}
 use lib.ListN.{getD}
-use mathlib.Core.List.{List}
-use lib.IntN.{ℤ}
-use Prim.Native.Nat.{ℕ}
 use Rattle.sets.specs.Numbers.{maskLimit, kappaOf}
 use Rattle.sets.proofs.Alike.{kappa-within, first-trial}
 use Rattle.vectors.specs.Vectors.{squares, sizes}
