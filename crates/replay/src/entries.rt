@@ -3,10 +3,9 @@ ghost use mathlib.Core.Path.{_≡_};
 ghost use Prim.Native.Nat.{_≤_};
 ghost use lib.ListN.{length};
 use crate::tally;
-use vector_calls::calls;
-use vector_calls::slots;
-use vector_calls::wanted;
-use vector_calls::wanted::Asked;
+use vector_slots::slots;
+use vector_slots::wanted;
+use vector_slots::wanted::Asked;
 
 // What an entry's head says.
 struct Head {
@@ -141,7 +140,7 @@ fn called(fd: i32, which: u8, memory: &[u8], counts: &mut [u32], said: &mut [u32
         return false;
     }
     let k = wanted::asked_in(&bytes);
-    if calls::call(memory, which, k, said) {
+    if vector_calls::call(memory, which, k, said) {
         count(which, k.number, counts);
     } else {
         missed(which, k, counts);

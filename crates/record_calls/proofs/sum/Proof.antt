@@ -2,8 +2,8 @@ use Prim.Native.Nat.{_≤_, _<_, _-_}
 use native.Mathlib.Omega.{arith}
 use lib.ListN.{length}
 use borrow.Author.Needs.{needs}
-use Rattle.records_run.proofs.sum.Statement.{statement}
-use Rattle.records_run.proofs.sum.Tie as tie
+use Rattle.record_calls.proofs.sum.Statement.{statement}
+use Rattle.record_calls.proofs.sum.Tie as tie
 
 abbrev Inv-loop : tie.InvT-loop
 Inv-loop bytes s₀ i₀ s i = (i ≤ length bytes) × (s < 1000003)

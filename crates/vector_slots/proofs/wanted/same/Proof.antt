@@ -1,7 +1,7 @@
 use Prim.Native.Nat.{_-_, _≤_}
 use borrow.Author.Needs.{needs}
-use Rattle.vector_calls.proofs.wanted.same.Statement.{statement}
-use Rattle.vector_calls.proofs.wanted.same.Tie as tie
+use Rattle.vector_slots.proofs.wanted.same.Statement.{statement}
+use Rattle.vector_slots.proofs.wanted.same.Tie as tie
 
 abbrev Inv-loop : tie.InvT-loop
 Inv-loop x y count i₀ i = i ≤ count

@@ -3,8 +3,8 @@ use mathlib.Core.Path.{_≡_}
 use native.Mathlib.Omega.{arith}
 use lib.ListN.{length, length-set}
 use borrow.Author.Needs.{needs}
-use Rattle.vector_calls.proofs.slots.long.Statement.{statement}
-use Rattle.vector_calls.proofs.slots.long.Tie as tie
+use Rattle.vector_slots.proofs.slots.long.Statement.{statement}
+use Rattle.vector_slots.proofs.slots.long.Tie as tie
 
 abbrev Inv-loop : tie.InvT-loop
 Inv-loop memory slot row₀ held i₀ row i = (i ≤ 64) × (length row ≡ 64)
