@@ -1,6 +1,6 @@
 -- The ways on through a response: a refusal before the draw, the lengths that were tested, and what the sign choices bring to the draw. Assumes nothing.
 use mathlib.Core.Path.{_≡_, refl, sym, ap₂, subst}
-use mathlib.Core.Bool.{true}
+use mathlib.Core.Bool.{true, _&&_}
 use mathlib.Core.List.{List}
 use Prim.Native.Nat.{ℕ, _+_, _*_, _≤_}
 use native.Mathlib.Nat.{mul-le-mul-left}
@@ -24,7 +24,7 @@ use Rattle.vectors.specs.Places.{properList}
 use Rattle.vectors.proofs.Ranges.{within-at}
 use Rattle.vectors.proofs.Rising.{proper-count, proper-places}
 use Rattle.keys.specs.Key.{relation, properKey}
-use Rattle.keys.proofs.Ranges.{sized-is}
+use Rattle.keys.proofs.Ranges.{sized-three, sized-four}
 use Rattle.vectors.specs.Pairs.{Pair, pair, squaresPair}
 use Rattle.choices.specs.Choices.{choices}
 use Rattle.choices.proofs.Pairs.{Sized, Within}
@@ -41,15 +41,11 @@ pub all-sized : (c : Lent) → allSized c ≡ true
     → ((length (c .f) ≡ dimension) × (length (c .g) ≡ dimension) × (length (c .a) ≡ dimension) × (length (c .thresholds) ≡ places))
     × ((length (c .y1) ≡ dimension) × (length (c .y2) ≡ dimension) × (length (c .z1) ≡ dimension) × (length (c .z2) ≡ dimension))
 all-sized c e =
-    let e₁ = and-right (sized (c .f)) _ e in
-    let e₂ = and-right (sized (c .g)) _ e₁ in
-    let e₃ = and-right (sized (c .a)) _ e₂ in
-    let e₄ = and-right (sized (c .y1)) _ e₃ in
-    let e₅ = and-right (sized (c .y2)) _ e₄ in
-    let e₆ = and-right (sized (c .z1)) _ e₅ in (
-      (sized-is (c .f) (and-left (sized (c .f)) _ e), sized-is (c .g) (and-left (sized (c .g)) _ e₁), sized-is (c .a) (and-left (sized (c .a)) _ e₂), eqb-true (length (c .thresholds)) places (and-right (sized (c .z2)) _ e₆)),
-      (sized-is (c .y1) (and-left (sized (c .y1)) _ e₃), sized-is (c .y2) (and-left (sized (c .y2)) _ e₄), sized-is (c .z1) (and-left (sized (c .z1)) _ e₅), sized-is (c .z2) (and-left (sized (c .z2)) _ e₆)),
-    )
+    let rest = and-right (sized (c .f) && (sized (c .g) && (sized (c .a) && sized (c .y1)))) _ e in
+    let (lf, lg, la, ly1) = sized-four (c .f) (c .g) (c .a) (c .y1) (and-left _ _ e) in
+    let (ly2, lz1, lz2) = sized-three (c .y2) (c .z1) (c .z2) (and-left _ _ rest) in
+    let lt = eqb-true (length (c .thresholds)) places (and-right (sized (c .y2) && (sized (c .z1) && sized (c .z2))) _ rest) in
+    ((lf, lg, la, lt), (ly1, ly2, lz1, lz2))
 
 pub are-sized : (c : Lent)
     → ((length (c .f) ≡ dimension) × (length (c .g) ≡ dimension) × (length (c .a) ≡ dimension) × (length (c .thresholds) ≡ places))

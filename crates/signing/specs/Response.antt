@@ -104,8 +104,9 @@ drawn s d v =
 -- every vector has 512 entries, and there are 31 thresholds
 abbrev pub allSized : Lent → Bool
 allSized c =
-    sized (c .f) && (sized (c .g) && (sized (c .a) && (sized (c .y1) && (sized (c .y2)
-    && (sized (c .z1) && (sized (c .z2) && eqb (length (c .thresholds)) places))))))
+    (sized (c .f) && (sized (c .g) && (sized (c .a) && sized (c .y1))))
+    && ((sized (c .y2) && (sized (c .z1) && sized (c .z2)))
+    && eqb (length (c .thresholds)) places)
 
 -- a refusal before the draw has taken no word
 abbrev pub early : Lent → Outcome → Responded

@@ -9,7 +9,7 @@ ghost use Rattle.laws.specs.Lists.{every, zipWith};
 ghost use Rattle.sets.specs.Numbers.{dimension, places, kappaOf, keyLimitOf};
 ghost use Rattle.answers.specs.Outcomes.{unless};
 ghost use Rattle.ring.specs.Transform.{spectrumOf};
-ghost use Rattle.vectors.specs.Vectors.{isDimension, within, squares, sizes};
+ghost use Rattle.vectors.specs.Vectors.{within, squares, sizes};
 ghost use Rattle.vectors.specs.Places.{properList};
 ghost use Rattle.keys.specs.Key.{properKey};
 ghost use Rattle.commitment.specs.Commitment.{isReduced, areMasks, sums};
@@ -99,52 +99,22 @@ fn respond_for(
           z2 = now (z2 .entry);
         }) ⌝ }
 {
-    if !all_sized(
-        f.len(),
-        g.len(),
-        a.len(),
-        y1.len(),
-        y2.len(),
-        z1.len(),
-        z2.len(),
-        thresholds.len(),
-    ) {
+    let four = vectors::four_sized(f.len(), g.len(), a.len(), y1.len());
+    let three = vectors::three_sized(y2.len(), z1.len(), z2.len());
+    if !all_sized(four, three, thresholds.len()) {
         return refusal(Outcome::WrongLength);
     }
     test(s, f, g, a, y1, y2, list, sign, thresholds, words, z1, z2)
 }
 
-fn all_sized(
-    f: usize,
-    g: usize,
-    a: usize,
-    y1: usize,
-    y2: usize,
-    z1: usize,
-    z2: usize,
-    thresholds: usize,
-) -> bool
-    ensures { λ r. ⌜ r ≡ isDimension f && (isDimension g && (isDimension a && (isDimension y1 && (isDimension y2 && (isDimension z1 && (isDimension z2 && eqb thresholds places)))))) ⌝ }
+// Whether four and three vectors have their length, and the thresholds theirs.
+fn all_sized(four: bool, three: bool, thresholds: usize) -> bool
+    ensures { λ r. ⌜ r ≡ four && (three && eqb thresholds places) ⌝ }
 {
-    if f != Set::DIMENSION {
+    if !four {
         return false;
     }
-    if g != Set::DIMENSION {
-        return false;
-    }
-    if a != Set::DIMENSION {
-        return false;
-    }
-    if y1 != Set::DIMENSION {
-        return false;
-    }
-    if y2 != Set::DIMENSION {
-        return false;
-    }
-    if z1 != Set::DIMENSION {
-        return false;
-    }
-    if z2 != Set::DIMENSION {
+    if !three {
         return false;
     }
     thresholds == Set::PLACES
