@@ -36,7 +36,7 @@ lib: library ## makes target/staticlib/libbursztok.a; its header is include/burs
 library: toolchain $(LIBRARY) $(BRIDGE)
 
 $(LIBRARY): crates.txt $(SOURCES)
-	@echo "proving what has changed and building $(LIBRARY) (5 to 10 minutes the first time on two cores)"
+	@echo "proving what has changed and building $(LIBRARY) (4 to 5 minutes the first time on two cores)"
 	@mkdir -p target/log
 	@"$(RT)" staticlib bursztok 2>&1 | tee target/log/library.log | tools/progress --brief bursztok || { tail -n 30 target/log/library.log; exit 1; }
 
