@@ -73,22 +73,20 @@ static void hash_list(const uint16_t rounded[BURSZTOK_VECTOR], const char *sheet
 /* Ends the program where a call refuses what it must not. */
 static void require_done(const char *call, uint32_t number, uint32_t place)
 {
-    if (number != 0) {
+    if (number != BURSZTOK_DONE) {
         fprintf(stderr, "%s refused with number %u, place %u\n", call, (unsigned)number,
                 (unsigned)place);
         exit(1);
     }
 }
 
-/* The challenge size of the test key's set, as bursztok.h lists it. */
-#define KAPPA 23
-
 /* The ship: signs the sheet and writes its record. Returns the record's length. */
 static size_t sign_sheet(const char *sheet, uint8_t record[BURSZTOK_RECORD])
 {
     int16_t y1[BURSZTOK_VECTOR], y2[BURSZTOK_VECTOR], z1[BURSZTOK_VECTOR];
     int8_t z2[BURSZTOK_VECTOR];
-    uint16_t committed[BURSZTOK_VECTOR], list[KAPPA];
+    uint16_t committed[BURSZTOK_VECTOR], list[BURSZTOK_LIST];
+    size_t kappa = bursztok_kappa(TEST_KEY_SET);
     uint64_t words[WORDS];
     bursztok_response response;
     bursztok_answer answer;
@@ -108,23 +106,24 @@ static size_t sign_sheet(const char *sheet, uint8_t record[BURSZTOK_RECORD])
                                      BURSZTOK_VECTOR, y2, BURSZTOK_VECTOR, committed,
                                      BURSZTOK_VECTOR);
         require_done("commitment", answer.number, answer.place);
-        hash_list(committed, sheet, list, KAPPA);
+        hash_list(committed, sheet, list, kappa);
         response = bursztok_respond(TEST_KEY_SET, test_key_f, BURSZTOK_VECTOR, test_key_g,
                                     BURSZTOK_VECTOR, test_key_a, BURSZTOK_VECTOR, y1,
-                                    BURSZTOK_VECTOR, y2, BURSZTOK_VECTOR, list, KAPPA,
+                                    BURSZTOK_VECTOR, y2, BURSZTOK_VECTOR, list, kappa,
                                     noise_word() >> 63 != 0, test_thresholds,
                                     BURSZTOK_THRESHOLDS, words, WORDS, z1, BURSZTOK_VECTOR, z2,
                                     BURSZTOK_VECTOR);
-        /* 8, 10 and 11 are part of the scheme: again, with new masks. */
-    } while (response.number == 8 || response.number == 10 || response.number == 11);
+        /* These are part of the scheme: again, with new masks. */
+    } while (response.number == BURSZTOK_REJECTED || response.number == BURSZTOK_ENTRY ||
+             response.number == BURSZTOK_SUM);
     require_done("response", response.number, response.place);
     printf("signed at try %u, %llu words taken by the draw\n", tries,
            (unsigned long long)response.words);
 
-    answer = bursztok_write(TEST_KEY_SET, z1, BURSZTOK_VECTOR, z2, BURSZTOK_VECTOR, list, KAPPA,
+    answer = bursztok_write(TEST_KEY_SET, z1, BURSZTOK_VECTOR, z2, BURSZTOK_VECTOR, list, kappa,
                             record, BURSZTOK_RECORD);
     require_done("writer", answer.number, answer.place);
-    return (size_t)record[18] + 256u * record[19];
+    return bursztok_record_bytes(TEST_KEY_SET);
 }
 
 /* The shore: checks the sheet with the public key and the record. */
@@ -132,7 +131,8 @@ static bursztok_answer check_sheet(const char *sheet, const uint8_t *record, siz
 {
     int16_t z1[BURSZTOK_VECTOR];
     int8_t z2[BURSZTOK_VECTOR];
-    uint16_t rebuilt[BURSZTOK_VECTOR], claimed[BURSZTOK_LIST], hashed[KAPPA];
+    uint16_t rebuilt[BURSZTOK_VECTOR], claimed[BURSZTOK_LIST], hashed[BURSZTOK_LIST];
+    size_t kappa;
     bursztok_reading reading;
     bursztok_answer answer;
 
@@ -140,16 +140,17 @@ static bursztok_answer check_sheet(const char *sheet, const uint8_t *record, siz
                             BURSZTOK_LIST);
     answer.number = reading.number;
     answer.place = reading.place;
-    if (answer.number != 0) {
+    if (answer.number != BURSZTOK_DONE) {
         return answer;
     }
+    kappa = bursztok_kappa(reading.set);
     answer = bursztok_rebuild(reading.set, test_key_a, BURSZTOK_VECTOR, z1, BURSZTOK_VECTOR, z2,
-                              BURSZTOK_VECTOR, claimed, KAPPA, rebuilt, BURSZTOK_VECTOR);
-    if (answer.number != 0) {
+                              BURSZTOK_VECTOR, claimed, kappa, rebuilt, BURSZTOK_VECTOR);
+    if (answer.number != BURSZTOK_DONE) {
         return answer;
     }
-    hash_list(rebuilt, sheet, hashed, KAPPA);
-    return bursztok_compare(reading.set, claimed, KAPPA, hashed, KAPPA);
+    hash_list(rebuilt, sheet, hashed, kappa);
+    return bursztok_compare(reading.set, claimed, kappa, hashed, kappa);
 }
 
 /* Shows an answer, and ends the program where it is not the one expected. */
@@ -174,7 +175,7 @@ int main(int count, char **words)
     printf("sheet: %s\n", sheet);
     length = sign_sheet(sheet, record);
     printf("record of %u bytes\n", (unsigned)length);
-    show("checked", check_sheet(sheet, record, length), 0, 0);
+    show("checked", check_sheet(sheet, record, length), BURSZTOK_DONE, 0);
 
     part = bursztok_list_section(record, length, &number, &place);
     require_done("list section", number, place);
@@ -185,9 +186,12 @@ int main(int count, char **words)
     printf("\n");
 
     snprintf(other, sizeof other, "0%s", sheet);
-    show("checked with a nought put before the sheet", check_sheet(other, record, length), 12, 0);
-    show("checked with the last byte lost", check_sheet(sheet, record, length - 1), 13, 18);
+    show("checked with a nought put before the sheet", check_sheet(other, record, length),
+         BURSZTOK_LISTS_DIFFER, 0);
+    show("checked with the last byte lost", check_sheet(sheet, record, length - 1), BURSZTOK_HEADER,
+         18);
     record[14] ^= 1;
-    show("checked with the list's count changed", check_sheet(sheet, record, length), 13, 14);
+    show("checked with the list's count changed", check_sheet(sheet, record, length), BURSZTOK_HEADER,
+         14);
     return 0;
 }

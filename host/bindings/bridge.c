@@ -1,5 +1,5 @@
 /*
- * The ten calls over a pipe, for machines that cannot link the library, which is made for x86-64: src/served.rs
+ * The calls over a pipe, for machines that cannot link the library, which is made for x86-64: src/served.rs
  * asks, and this program, with the library linked, answers until its input ends.
  *
  * A request is the call's number (their order in bursztok.h, from 1), the set, the sign bit and the count of
@@ -99,6 +99,10 @@ static reply answer(uint32_t call, uint32_t set, bool sign, uint32_t *written)
         return found(bursztok_z2_section);
     case 10:
         return found(bursztok_list_section);
+    case 11:
+        return (reply){ bursztok_kappa(set), 0, 0, 0 };
+    case 12:
+        return (reply){ bursztok_record_bytes(set), 0, 0, 0 };
     default:
         exit(1);
     }

@@ -1,2 +1,3 @@
--- From a response that is done to what the functions after it ask for.
-pub mod Given
+-- From what the calls leave behind to what `accepts` and `send` answer; and the promise.
+pub mod Answers
+pub mod Promise

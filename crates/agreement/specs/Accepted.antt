@@ -1,43 +1,77 @@
--- What a signature that was given out comes to, call by call: each function that follows the response asks for its part.
+-- Demand 3, to be run: the checker's half as one truth value, the signer's half as what it leaves behind, and the promise that the one says yes to the other.
 use mathlib.Core.Path.{_≡_}
-use mathlib.Core.List.{List, _++_}
+use mathlib.Core.Bool.{Bool, true, false, _&&_}
+use mathlib.Core.List.{List}
 use Prim.Native.Nat.{ℕ, _≤_}
-use lib.IntN.{ℤ}
-use lib.ListN.{length, drop}
+use lib.IntN.{ℤ, pos}
+use lib.ListN.{length, take, replicate}
+use Rattle.laws.specs.Lists.{same}
 use Rattle.sets.specs.declared.Set.{Set}
 use Rattle.sets.specs.declared.Asked.the-variants.{Known}
-use Rattle.sets.specs.Numbers.{dimension, listLimit, kappaOf, totalOf, numberOf, askedOf}
-use Rattle.answers.specs.declared.Outcome.the-variants.{Done}
-use Rattle.answers.specs.Outcomes.{filled}
-use Rattle.commitment.specs.Commitment.{commitment}
-use Rattle.checking.specs.Checking.{rebuild}
-use Rattle.records.specs.Writer.{written, writingOf}
-use Rattle.records.specs.Reader.{found, readingOf}
+use Rattle.sets.specs.Numbers.{dimension, listLimit, kappaOf, totalOf, askedOf}
+use Rattle.answers.specs.declared.Outcome.{Outcome}
+use Rattle.answers.specs.Outcomes.{numberOf, isDone, unless, forSet, Filled, filled}
+use Rattle.commitment.specs.Commitment.{committed, commitment}
+use Rattle.signing.specs.Response.{Lent, Responded, responded, response}
+use Rattle.checking.specs.Checking.{Claim, claim, rebuild, comparison}
+use Rattle.records.specs.Writer.{writingOf}
+use Rattle.records.specs.Reader.{Found, found, readingOf}
+use Rattle.promises.specs.Demands.{Fills}
 
--- the rebuild is done and writes `rounded`
-abbrev pub Rebuilds : ℕ → List ℕ → List ℤ → List ℤ → List ℕ → List ℕ → Type 0
-Rebuilds set a z1 z2 l rounded = (old : List ℕ) → length old ≡ dimension → rebuild set a z1 z2 l old ≡ filled Done rounded
+-- ---- the checker
 
--- a record that reads as a signature of s, from which `rounded` is rebuilt
-pub record Readable (s : Set) (a rec rounded : List ℕ) : Type 0 where
-  pub z1 : List ℤ
-  pub z2 : List ℤ
-  pub l : List ℕ
-  pub long : length l ≡ kappaOf s
-  pub reads : (b1 b2 : List ℤ) (b3 : List ℕ) → length b1 ≡ dimension → length b2 ≡ dimension → length b3 ≡ listLimit
-      → readingOf rec b1 b2 b3 ≡ found Done (numberOf s) z1 z2 (l ++ drop (kappaOf s) b3)
-  pub rebuilds : Rebuilds (numberOf s) a z1 z2 l rounded
+-- a call that is done, with this vector
+unfoldable pub fills : Filled → List ℕ → Bool
+fills (filled o x) rounded = isDone o && same x rounded
 
--- a signature of s that the writer takes, and from which `rounded` is rebuilt
-pub record Writable (set : ℕ) (s : Set) (a : List ℕ) (z1 z2 : List ℤ) (l rounded : List ℕ) : Type 0 where
-  pub asked : askedOf set ≡ Known s
-  pub long : length l ≡ kappaOf s
-  pub writes : (out : List ℕ) → totalOf s ≤ length out → (after : List ℕ) × (writingOf set z1 z2 l out ≡ written Done after)
-  pub rebuilds : Rebuilds (numberOf s) a z1 z2 l rounded
+-- "the checker, holding only the public key, the signature and the same list, refuses nothing and rebuilds exactly the rounded vector" (demand 3)
+unfoldable pub rebuilds : List ℕ → ℕ → Claim → List ℕ → Bool
+rebuilds a set c rounded = isDone (comparison set (c .list) (c .list)) && fills (rebuild set a c (replicate dimension 0)) rounded
 
--- a signature of the masks y1 and y2 that is accepted
-pub record Accepted (set : ℕ) (a : List ℕ) (y1 y2 : List ℤ) (l : List ℕ) (z1 z2 : List ℤ) : Type 0 where
-  pub s : Set
-  pub rounded : List ℕ
-  pub commits : (before : List ℕ) → length before ≡ dimension → commitment set a y1 y2 before ≡ filled Done rounded
-  pub writable : Writable set s a z1 z2 l rounded
+-- of what the reader leaves behind; the list is the first kappa entries of its buffer
+unfoldable pub readRebuilds : List ℕ → List ℕ → Found → Bool
+readRebuilds a rounded (found o set z1 z2 list) =
+    isDone o && forSet (askedOf set) false (λ s. rebuilds a set (claim z1 z2 (take (kappaOf s) list)) rounded)
+
+-- of a record, read into buffers of zeros
+unfoldable pub accepted : List ℕ → List ℕ → List ℕ → Bool
+accepted a rec rounded = readRebuilds a rounded (readingOf rec (replicate dimension (pos 0)) (replicate dimension (pos 0)) (replicate listLimit 0))
+
+-- ---- the signer
+
+-- what it leaves behind: the outcome, the count of words taken, the output that has the record, and the vector committed to
+pub data Sent : Type 0 where
+  sent : Outcome → ℕ → List ℕ → List ℕ → Sent
+
+-- the record after the commitment
+abbrev pub recorded : ℕ → List ℕ → Filled → Sent
+recorded count rounded (filled o out) = sent o count out rounded
+
+-- the commitment and the writer, each where nothing was refused before it; `out` and `before` are what the output and the vector held
+abbrev pub committedAnd : ℕ → List ℕ → Filled → Filled → Sent
+committedAnd count out (filled o rounded) writing = unless o (λ refusal. sent refusal count out rounded) (recorded count rounded writing)
+
+unfoldable pub sentAfter : ℕ → Lent → List ℕ → List ℕ → Responded → Sent
+sentAfter set c out before (responded o count z1 z2) =
+    unless o (λ refusal. sent refusal count out before)
+    (committedAnd count out (commitment set (c .a) (c .y1) (c .y2) before) (writingOf set z1 z2 (c .list) out))
+
+-- the response first
+abbrev pub sending : ℕ → Lent → List ℕ → List ℕ → Sent
+sending set c out before = sentAfter set c out before (response set c)
+
+-- ---- the promise
+
+-- For every response given out the commitment for the same masks answers 0, the writer for the same set answers 0, whatever their buffers held, and the checker
+-- accepts the record, the first bytes of the writer's output, for the vector committed to.
+abbrev pub SaysYes : Type 0
+SaysYes =
+    (set : ℕ) (c : Lent) (o : Outcome) (count : ℕ) (z1 z2 : List ℤ) (s : Set) (before out : List ℕ)
+    → response set c ≡ responded o count z1 z2
+    → numberOf o ≡ 0
+    → askedOf set ≡ Known s
+    → length before ≡ dimension → totalOf s ≤ length out
+    → (after : List ℕ)
+    × Fills (commitment set (c .a) (c .y1) (c .y2) before) (committed s (c .a) (c .y1) (c .y2))
+    × Fills (writingOf set z1 z2 (c .list) out) after
+    × (accepted (c .a) (take (totalOf s) after) (committed s (c .a) (c .y1) (c .y2)) ≡ true)

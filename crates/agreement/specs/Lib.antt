@@ -1,2 +1,2 @@
--- What a signature that was given out comes to, call by call.
+-- Demand 3, to be run, and its promise.
 pub mod Accepted

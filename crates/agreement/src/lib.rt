@@ -1,12 +1,70 @@
-// Demand 3, to be run: what the response gives out is written, read back and rebuilt, and the checker's vector is the signer's.
+// Demand 3, to be run: the checker's half, which may say no, and the signer's half.
 ghost use mathlib.Core.Path.{_≡_};
-ghost use mathlib.Core.Bool.{true};
-ghost use Rattle.agreement.specs.Accepted.{Rebuilds, Readable, Writable, Accepted};
+ghost use lib.IntN.{pos};
+ghost use lib.ListN.{replicate};
+ghost use Rattle.laws.specs.Lists.{same};
+ghost use Rattle.sets.specs.Numbers.{dimension};
+ghost use Rattle.checking.specs.Checking.{claim};
+ghost use Rattle.agreement.specs.Accepted.{rebuilds as rebuildsTo, accepted, sent, sending};
+use answers::Outcome;
 use sets::Asked;
 use sets::Set;
+use signing::Response;
 
-// Whether signer and checker agree. Where the response refuses, nothing was given out. It never answers false.
-pub fn agrees(
+// ---- the checker
+
+// Whether a checker who holds the public key takes a record for that of whoever committed to a vector: the reader reads it, nothing is refused, and the rebuilt
+// vector is the committed one.
+pub fn accepts(a: &[u16], rec: &[u8], committed: &[u16]) -> bool
+    ensures { λ r. ⌜ r ≡ accepted (now (a .entry)) (now (rec .entry)) (now (committed .entry)) ⌝ }
+{
+    let mut z1 = [0i16; Set::DIMENSION];
+    let mut z2 = [0i8; Set::DIMENSION];
+    let mut list = [0u16; Set::LIST_LIMIT];
+    let reading = records::read(rec, &mut z1, &mut z2, &mut list);
+    let read = reading.outcome;
+    if !read.is_done() {
+        return false;
+    }
+    match Set::asked(reading.set) {
+        Asked::Unknown => false,
+        Asked::Known(s) => {
+            let kappa = s.kappa();
+            rebuilds(a, reading.set, &z1, &z2, &list[..kappa], committed)
+        }
+    }
+}
+
+// The comparison of the list with itself, and the rebuild.
+fn rebuilds(a: &[u16], set: u32, z1: &[i16], z2: &[i8], list: &[u16], committed: &[u16]) -> bool
+    ensures { λ r. ⌜ r ≡ rebuildsTo (now (a .entry)) set (claim (now (z1 .entry)) (now (z2 .entry)) (now (list .entry))) (now (committed .entry)) ⌝ }
+{
+    let compared = checking::comparison(set, list, list);
+    if !compared.is_done() {
+        return false;
+    }
+    let mut restored = [0u16; Set::DIMENSION];
+    let rebuilt = checking::rebuild(set, a, z1, z2, list, &mut restored);
+    if !rebuilt.is_done() {
+        return false;
+    }
+    is_same(&restored, committed)
+}
+
+// Whether two vectors of any lengths are the same.
+fn is_same(x: &[u16], y: &[u16]) -> bool
+    ensures { λ r. ⌜ r ≡ same (now (x .entry)) (now (y .entry)) ⌝ }
+{
+    if x.len() != y.len() {
+        return false;
+    }
+    checking::same(x, y)
+}
+
+// ---- the signer
+
+// Signs, commits and writes the record to the front of an output. The outcome is the first refusal of the three.
+pub fn send(
     set: u32,
     f: &[i8],
     g: &[i8],
@@ -17,8 +75,24 @@ pub fn agrees(
     sign: bool,
     thresholds: &[u64],
     words: &[u64],
-) -> bool
-    ensures { λ r. ⌜ r ≡ true ⌝ }
+    out: &mut [u8],
+    committed: &mut [u16],
+) -> Response
+    ensures { λ r. ⌜ sent (r .outcome) (r .words) (now (out .exit)) (now (committed .exit))
+        ≡ sending set (record {
+          f = now (f .entry);
+          g = now (g .entry);
+          a = now (a .entry);
+          y1 = now (y1 .entry);
+          y2 = now (y2 .entry);
+          list = now (list .entry);
+          sign = sign;
+          thresholds = now (thresholds .entry);
+          words = now (words .entry);
+          z1 = replicate dimension (pos 0);
+          z2 = replicate dimension (pos 0);
+        })
+        (now (out .entry)) (now (committed .entry)) ⌝ }
 {
     let mut z1 = [0i16; Set::DIMENSION];
     let mut z2 = [0i8; Set::DIMENSION];
@@ -38,93 +112,17 @@ pub fn agrees(
     );
     let outcome = response.outcome;
     if !outcome.is_done() {
-        return true;
+        return response;
     }
-    accepted(set, a, y1, y2, list, &z1, &z2)
-}
-
-// The commitment, and whether what follows comes to the same vector.
-fn accepted(
-    set: u32,
-    a: &[u16],
-    y1: &[i16],
-    y2: &[i16],
-    list: &[u16],
-    z1: &[i16],
-    z2: &[i8],
-) -> bool
-    requires { ⌜ Accepted set (now a) (now y1) (now y2) (now list) (now z1) (now z2) ⌝ }
-    ensures { λ r. ⌜ r ≡ true ⌝ }
-{
-    let mut committed = [0u16; Set::DIMENSION];
-    let o = commitment::commitment(set, a, y1, y2, &mut committed);
-    if !o.is_done() {
-        return false;
+    let refusal = commitment::commitment(set, a, y1, y2, committed);
+    if !refusal.is_done() {
+        return Response {
+            outcome: refusal,
+            words: response.words,
+        };
     }
-    match Set::asked(set) {
-        Asked::Unknown => false,
-        Asked::Known(s) => sent(set, s, a, z1, z2, list, &committed),
+    Response {
+        outcome: records::write(set, &z1, &z2, list, out),
+        words: response.words,
     }
-}
-
-// The writer.
-fn sent(set: u32, s: Set, a: &[u16], z1: &[i16], z2: &[i8], list: &[u16], committed: &[u16]) -> bool
-    requires { ⌜ Writable set s (now a) (now z1) (now z2) (now list) (now committed) ⌝ }
-    ensures { λ r. ⌜ r ≡ true ⌝ }
-{
-    let mut out = [0u8; Set::RECORD_LIMIT];
-    let o = records::write(set, z1, z2, list, &mut out);
-    if !o.is_done() {
-        return false;
-    }
-    let total = s.total();
-    received(s, a, &out[..total], committed)
-}
-
-// The reader, and the set that it answers.
-fn received(s: Set, a: &[u16], rec: &[u8], committed: &[u16]) -> bool
-    requires { ⌜ Readable s (now a) (now rec) (now committed) ⌝ }
-    ensures { λ r. ⌜ r ≡ true ⌝ }
-{
-    let mut z1 = [0i16; Set::DIMENSION];
-    let mut z2 = [0i8; Set::DIMENSION];
-    let mut list = [0u16; Set::LIST_LIMIT];
-    let reading = records::read(rec, &mut z1, &mut z2, &mut list);
-    let outcome = reading.outcome;
-    if !outcome.is_done() {
-        return false;
-    }
-    if reading.set != s.number() {
-        return false;
-    }
-    let kappa = s.kappa();
-    rebuilt(reading.set, a, &z1, &z2, &list[..kappa], committed)
-}
-
-// The rebuild from what was read.
-fn rebuilt(set: u32, a: &[u16], z1: &[i16], z2: &[i8], list: &[u16], committed: &[u16]) -> bool
-    requires { ⌜ Rebuilds set (now a) (now z1) (now z2) (now list) (now committed) ⌝ }
-    ensures { λ r. ⌜ r ≡ true ⌝ }
-{
-    let mut restored = [0u16; Set::DIMENSION];
-    let o = checking::rebuild(set, a, z1, z2, list, &mut restored);
-    if !o.is_done() {
-        return false;
-    }
-    same(&restored, committed)
-}
-
-// Whether two vectors are the same, which they are.
-fn same(x: &[u16], y: &[u16]) -> bool
-    requires { ⌜ now x ≡ now y ⌝ }
-    ensures { λ r. ⌜ r ≡ true ⌝ }
-{
-    let mut i = 0;
-    while i < x.len() {
-        if x[i] != y[i] {
-            return false;
-        }
-        i += 1;
-    }
-    x.len() == y.len()
 }

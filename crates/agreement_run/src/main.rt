@@ -1,144 +1,371 @@
-// Signer and checker on the reference point of 01 and on other keys, masks, lists and words. A line for each case: what is lent, the number that the response
-// answers and the words that it took, and whether what was given out is accepted.
+// Signer and checker. A line for each case: what is lent, the number that the response answers and the words that it took; where a signature is given out, what
+// `accepts` says of its record. Then records, keys and vectors that were changed.
 ghost use mathlib.Core.Path.{_≡_};
-ghost use Prim.Native.Nat.{_≤_};
 ghost use lib.ListN.{length};
+ghost use Rattle.sets.specs.Numbers.{dimension, recordLimit};
+use lending::first_bytes;
+use lending::first_long;
+use lending::first_whole;
+use lending::rows;
 use libc::STDOUT_FILENO;
+use sets::Asked;
 use sets::Set;
+use signing::Response;
 
-fn main() {
-    reference_points();
-    every_set();
-    keys();
-    refusals();
-}
-
-// f = 1, g = 0, a = 1, masks zero, list 0 .. 22.
-fn reference_points() {
-    run(1, 23, 0, 0, 0, 0, false, 1, 12);
-    run(1, 23, 0, 0, 0, 0, false, 1, 11);
-    run(1, 23, 0, 0, 0, 0, false, 0, 1);
-}
-
-// Masks other than zero, and both signs.
-fn every_set() {
-    both_signs(0, 23, 300, -200);
-    both_signs(1, 23, -301, 203);
-    both_signs(2, 23, 250, 250);
-    both_signs(3, 30, 119, -177);
-    both_signs(4, 39, -123, -222);
-}
-
-fn both_signs(set: u32, kappa: usize, y1: i16, y2: i16)
-    requires { ⌜ kappa ≤ 39 ⌝ }
-{
-    run(set, kappa, 0, 0, y1, y2, false, 1, 90);
-    run(set, kappa, 0, 0, y1, y2, true, 1, 90);
-}
-
-// g = 1 or -2 at place 5, where a = 2g + 1 has 2 or -4 modulo 12289.
-fn keys() {
-    run(1, 23, 1, 2, 150, 75, false, 1, 90);
-    run(1, 23, -2, 12285, 150, -75, true, 1, 90);
-    run(3, 30, 1, 2, -31, 64, true, 1, 90);
-    run(4, 39, -2, 12285, 17, 5, false, 1, 90);
-}
-
-// An unknown set, a list too short, a relation that does not hold, masks too large for the limits and for the length rule.
-fn refusals() {
-    run(5, 23, 0, 0, 0, 0, false, 1, 90);
-    run(1, 22, 0, 0, 0, 0, false, 1, 90);
-    run(1, 23, 1, 3, 0, 0, false, 1, 90);
-    run(1, 23, 0, 0, 4097, 0, false, 1, 90);
-    run(1, 23, 0, 0, 4096, 0, false, 1, 90);
-    run(1, 23, 0, 0, 0, -4096, false, 1, 90);
-}
-
-// A case: g and a at place 5, every coefficient of each mask, every threshold, and the count of words, all 0.
-fn run(
+// What is lent: a set and the set whose list it is, kappa places from 0 on; f = 1, g and a at place 5 beside a = 1 at place 0; every coefficient of each mask; the
+// sign bit; every threshold; the count of words, all 0.
+struct Case {
     set: u32,
-    kappa: usize,
+    list_of: u32,
     g5: i8,
     a5: u16,
-    mask1: i16,
-    mask2: i16,
+    y1: i16,
+    y2: i16,
     sign: bool,
     threshold: u64,
-    count: usize,
-)
-    requires { ⌜ (kappa ≤ 39) × (count ≤ 90) ⌝ }
-{
+    words: usize,
+}
+
+fn main() {
+    every_set();
+    reference_points();
+    signs();
+    keys();
+    refusals();
+    too_long();
+    changed(
+        b"set 1, masks 301 and -200, changed after it was sent\n",
+        masked(1, 301, -200),
+    );
+    changed(
+        b"set 4, masks -123 and -222, changed after it was sent\n",
+        masked(4, -123, -222),
+    );
+}
+
+// ---- the cases
+
+// f = 1, g = 0, a = 1, sign bit 0, thresholds 1, words enough.
+fn masked(set: u32, y1: i16, y2: i16) -> Case {
+    keyed(set, 0, 0, y1, y2, false)
+}
+
+fn every_set() {
+    print(b"of each set a signature is given out and accepted\n");
+    run(b"set 1, masks 300 and -200", masked(1, 300, -200));
+    run(b"set 2, masks 250 and 250", masked(2, 250, 250));
+    run(b"set 3, masks 100 and -120", masked(3, 100, -120));
+    run(b"set 4, masks -123 and -222", masked(4, -123, -222));
+    run(
+        b"set 0, which stands for 1, masks -301 and 203",
+        masked(0, -301, 203),
+    );
+}
+
+fn reference_points() {
+    print(b"the reference point of 01: set 1, f = 1, g = 0, a = 1, masks zero, list 0 .. 22\n");
+    run(b"thresholds 1, twelve words", drawn(1, 12));
+    run(b"thresholds 1, eleven words", drawn(1, 11));
+    run(b"thresholds 0, one word", drawn(0, 1));
+    run(b"thresholds 1, no words", drawn(1, 0));
+}
+
+fn drawn(threshold: u64, words: usize) -> Case {
+    Case {
+        set: 1,
+        list_of: 1,
+        g5: 0,
+        a5: 0,
+        y1: 0,
+        y2: 0,
+        sign: false,
+        threshold,
+        words,
+    }
+}
+
+fn signs() {
+    print(b"sign bit 1\n");
+    run(
+        b"set 1, masks 300 and -200",
+        keyed(1, 0, 0, 300, -200, true),
+    );
+    run(b"set 2, masks 250 and 250", keyed(2, 0, 0, 250, 250, true));
+    run(
+        b"set 4, masks -123 and -222",
+        keyed(4, 0, 0, -123, -222, true),
+    );
+}
+
+fn keyed(set: u32, g5: i8, a5: u16, y1: i16, y2: i16, sign: bool) -> Case {
+    Case {
+        set,
+        list_of: set,
+        g5,
+        a5,
+        y1,
+        y2,
+        sign,
+        threshold: 1,
+        words: 90,
+    }
+}
+
+// a = 2g + 1, which has 2 or -4 modulo 12289 at place 5.
+fn keys() {
+    print(b"other keys\n");
+    run(
+        b"set 1, g = 1 at place 5, masks 150 and 75",
+        keyed(1, 1, 2, 150, 75, false),
+    );
+    run(
+        b"set 1, g = -2 at place 5, sign bit 1, masks 150 and -75",
+        keyed(1, -2, 12285, 150, -75, true),
+    );
+    run(
+        b"set 3, g = 1 at place 5, sign bit 1, masks -31 and 64",
+        keyed(3, 1, 2, -31, 64, true),
+    );
+    run(
+        b"set 4, g = -2 at place 5, masks 17 and 5",
+        keyed(4, -2, 12285, 17, 5, false),
+    );
+}
+
+fn refusals() {
+    print(b"no signature is given out\n");
+    run(b"set 5", masked(5, 0, 0));
+    run(b"set 1, the list of set 3", listed(1, 3));
+    run(
+        b"set 1, g = 1 and a = 3 at place 5: no key",
+        keyed(1, 1, 3, 0, 0, false),
+    );
+    run(b"set 1, masks 4097 and 0", masked(1, 4097, 0));
+}
+
+fn too_long() {
+    run(
+        b"set 1, masks 4096 and 0: z1 beyond largest",
+        masked(1, 4096, 0),
+    );
+    run(
+        b"set 1, masks 0 and -4096: z2 dagger beyond largest",
+        masked(1, 0, -4096),
+    );
+    run(
+        b"set 3, masks 119 and -177: the sum of squares",
+        masked(3, 119, -177),
+    );
+}
+
+fn listed(set: u32, list_of: u32) -> Case {
+    Case {
+        set,
+        list_of,
+        g5: 0,
+        a5: 0,
+        y1: 0,
+        y2: 0,
+        sign: false,
+        threshold: 1,
+        words: 90,
+    }
+}
+
+// ---- one case
+
+fn run(text: &[u8], c: Case) {
+    let mut rec = [0u8; Set::RECORD_LIMIT];
+    let mut committed = [0u16; Set::DIMENSION];
+    let r = sent(c, &mut rec, &mut committed);
+    let outcome = r.outcome;
+    print(b"  ");
+    print(text);
+    number(b": response ", outcome.number() as u64);
+    number(b", words taken ", r.words as u64);
+    if outcome.is_done() {
+        let a = public_key(c);
+        told(&a, first_bytes(&rec, total_of(c.set)), &committed);
+    } else {
+        print(b"\n");
+    }
+}
+
+fn sent(c: Case, rec: &mut [u8], committed: &mut [u16]) -> Response {
     let mut f = [0i8; Set::DIMENSION];
-    f[0] = 1;
     let mut g = [0i8; Set::DIMENSION];
+    let g5 = c.g5;
+    let mask1 = c.y1;
+    let mask2 = c.y2;
+    f[0] = 1;
     g[5] = g5;
-    let mut a = [0u16; Set::DIMENSION];
-    a[5] = a5;
-    a[0] = 1;
+    let a = public_key(c);
     let y1 = [mask1; Set::DIMENSION];
     let y2 = [mask2; Set::DIMENSION];
-    let list = places();
-    let thresholds = [threshold; Set::PLACES];
+    let thresholds = [c.threshold; Set::PLACES];
+    let places = rows::places(0, 0);
     let words = [0u64; 90];
-    told(
-        set,
+    agreement::send(
+        c.set,
         &f,
         &g,
         &a,
         &y1,
         &y2,
-        &list[..kappa],
-        sign,
+        first_whole(&places, kappa_of(c.list_of)),
+        c.sign,
         &thresholds,
-        &words[..count],
+        first_long(&words, c.words),
+        rec,
+        committed,
+    )
+}
+
+fn public_key(c: Case) -> [u16; Set::DIMENSION]
+    ensures { λ r. ⌜ length r ≡ dimension ⌝ }
+{
+    let mut a = [0u16; Set::DIMENSION];
+    a[5] = c.a5;
+    a[0] = 1;
+    a
+}
+
+// Of the set that a number stands for, and 0 where there is none.
+fn kappa_of(set: u32) -> usize {
+    match Set::asked(set) {
+        Asked::Unknown => 0,
+        Asked::Known(s) => s.kappa(),
+    }
+}
+
+fn total_of(set: u32) -> usize {
+    match Set::asked(set) {
+        Asked::Unknown => 0,
+        Asked::Known(s) => s.total(),
+    }
+}
+
+fn told(a: &[u16], rec: &[u8], committed: &[u16]) {
+    if agreement::accepts(a, rec, committed) {
+        print(b"; accepted: yes\n");
+    } else {
+        print(b"; accepted: no\n");
+    }
+}
+
+// ---- what was changed
+
+fn changed(text: &[u8], c: Case) {
+    let mut rec = [0u8; Set::RECORD_LIMIT];
+    let mut committed = [0u16; Set::DIMENSION];
+    sent(c, &mut rec, &mut committed);
+    let a = public_key(c);
+    print(text);
+    damaged(&a, &rec, total_of(c.set), &committed);
+}
+
+fn damaged(a: &[u16], rec: &[u8], total: usize, committed: &[u16])
+    requires { ⌜ length (now rec) ≡ recordLimit ⌝ }
+{
+    asked(b"  as it was sent", a, first_bytes(rec, total), committed);
+    header_bytes(a, rec, total, committed);
+    section_bytes(a, rec, total, committed);
+    list_bytes(a, rec, total, committed);
+    lengths(a, rec, total, committed);
+    others(a, first_bytes(rec, total), committed);
+}
+
+// Sets 1 and 2 differ in their limits alone: with the set of 1 made 2 the record is still accepted.
+fn header_bytes(a: &[u16], rec: &[u8], total: usize, committed: &[u16])
+    requires { ⌜ length (now rec) ≡ recordLimit ⌝ }
+{
+    let first = b"  header, byte 0 more by 1";
+    let set = b"  header, the set more by 1";
+    let last = b"  header, byte 23 more by 1";
+    more(first, a, rec, total, committed, 0, 1);
+    more(set, a, rec, total, committed, 4, 1);
+    more(last, a, rec, total, committed, 23, 1);
+}
+
+fn section_bytes(a: &[u16], rec: &[u8], total: usize, committed: &[u16])
+    requires { ⌜ length (now rec) ≡ recordLimit ⌝ }
+{
+    let low = b"  z1, low byte of the first entry more by 1";
+    let high = b"  z1, high byte of the last entry more by 16";
+    let dagger = b"  z2 dagger, first entry more by 1";
+    more(low, a, rec, total, committed, 24, 1);
+    more(high, a, rec, total, committed, 1047, 16);
+    more(dagger, a, rec, total, committed, 1048, 1);
+}
+
+fn list_bytes(a: &[u16], rec: &[u8], total: usize, committed: &[u16])
+    requires { ⌜ length (now rec) ≡ recordLimit ⌝ }
+{
+    let first = b"  list, first place 0 made 1, as the second is";
+    let last = b"  list, last place more by 3";
+    more(first, a, rec, total, committed, 1560, 1);
+    more(last, a, rec, total, committed, less(total, 2), 3);
+}
+
+fn less(n: usize, by: usize) -> usize {
+    if n < by { 0 } else { n - by }
+}
+
+fn more(text: &[u8], a: &[u16], rec: &[u8], total: usize, committed: &[u16], at: usize, by: u8)
+    requires { ⌜ length (now rec) ≡ recordLimit ⌝ }
+{
+    let mut spoiled = [0u8; Set::RECORD_LIMIT];
+    byte_codes::copy(rec, &mut spoiled);
+    raise(&mut spoiled, at, by);
+    asked(text, a, first_bytes(&spoiled, total), committed);
+}
+
+// A byte more by a number, modulo 256.
+fn raise(bytes: &mut [u8], at: usize, by: u8) {
+    if at < bytes.len() {
+        bytes[at] = std::num::wrapping_add_u8(bytes[at], by);
+    }
+}
+
+fn lengths(a: &[u16], rec: &[u8], total: usize, committed: &[u16]) {
+    let whole = first_bytes(rec, total);
+    let short = first_bytes(rec, less(total, 1));
+    asked(b"  the record without its last byte", a, short, committed);
+    asked(
+        b"  a public key of 511 coefficients",
+        first_whole(a, 511),
+        whole,
+        committed,
+    );
+    asked(
+        b"  511 entries of the vector",
+        a,
+        whole,
+        first_whole(committed, 511),
     );
 }
 
-fn told(
-    set: u32,
-    f: &[i8],
-    g: &[i8],
-    a: &[u16],
-    y1: &[i16],
-    y2: &[i16],
-    list: &[u16],
-    sign: bool,
-    thresholds: &[u64],
-    words: &[u64],
-) {
-    let mut z1 = [0i16; Set::DIMENSION];
-    let mut z2 = [0i8; Set::DIMENSION];
-    let response = signing::respond(
-        set,
-        f,
-        g,
+// Another public key, and another vector.
+fn others(a: &[u16], rec: &[u8], committed: &[u16]) {
+    let mut key = [0u16; Set::DIMENSION];
+    key[0] = 1;
+    key[5] = 2;
+    let zeros = [0u16; Set::DIMENSION];
+    asked(b"  another public key", &key, rec, committed);
+    asked(
+        b"  a vector of zeros in place of the committed one",
         a,
-        y1,
-        y2,
-        list,
-        sign,
-        thresholds,
-        words,
-        &mut z1,
-        &mut z2,
+        rec,
+        &zeros,
     );
-    let outcome = response.outcome;
-    number(b"set ", set as u64);
-    number(b", places ", list.len() as u64);
-    number(b", words ", words.len() as u64);
-    if sign {
-        print(b", sign 1");
-    } else {
-        print(b", sign 0");
-    }
-    number(b": the response answers ", outcome.number() as u64);
-    number(b", words taken ", response.words as u64);
-    if agreement::agrees(set, f, g, a, y1, y2, list, sign, thresholds, words) {
-        print(b"; agrees: yes\n");
-    } else {
-        print(b"; agrees: no\n");
-    }
 }
+
+fn asked(text: &[u8], a: &[u16], rec: &[u8], committed: &[u16]) {
+    print(text);
+    told(a, rec, committed);
+}
+
+// ---- text
 
 fn number(text: &[u8], n: u64) {
     print(text);
@@ -147,51 +374,4 @@ fn number(text: &[u8], n: u64) {
 
 fn print(text: &[u8]) {
     io::write_all(STDOUT_FILENO, text);
-}
-
-// 0, 1, .., 38.
-fn places() -> [u16; 39]
-    ensures { λ r. ⌜ length r ≡ 39 ⌝ }
-{
-    [
-        0,
-        1,
-        2,
-        3,
-        4,
-        5,
-        6,
-        7,
-        8,
-        9,
-        10,
-        11,
-        12,
-        13,
-        14,
-        15,
-        16,
-        17,
-        18,
-        19,
-        20,
-        21,
-        22,
-        23,
-        24,
-        25,
-        26,
-        27,
-        28,
-        29,
-        30,
-        31,
-        32,
-        33,
-        34,
-        35,
-        36,
-        37,
-        38,
-    ]
 }

@@ -3,15 +3,15 @@ use mathlib.Core.Path.{_≡_, refl, sym, ap, _∙_}
 use mathlib.Core.Bool.{Bool, true, false, not}
 use mathlib.Core.List.{List}
 use Prim.Native.Nat.{ℕ}
-use borrow.Author.Tests.{not-true, not-false}
+use borrow.Author.Tests.{not-true, not-false, eq-eqb}
 use Rattle.laws.specs.Refusals.{must}
 use Rattle.laws.proofs.Chain as Chain
 use Rattle.sets.specs.declared.Set.{Set}
 use Rattle.sets.specs.declared.Asked.{Asked}
 use Rattle.sets.specs.declared.Asked.the-variants.{Known, Unknown}
 use Rattle.answers.specs.declared.Outcome.{Outcome}
-use Rattle.answers.specs.declared.Outcome.the-variants.{Done, UnknownSet, WrongLength, CoefficientOutside, MaskOutside, ImproperList, RelationBroken, KeyTooLong, Rejected, WordMissing, EntryBeyond, SumAbove, ListsDiffer, HeaderMalformed, OutputShort}
-use Rattle.answers.specs.Outcomes.{isDone, unless, forSet, filled}
+use Rattle.answers.specs.declared.Outcome.the-variants.{Done, UnknownSet, WrongLength, CoefficientOutside, MaskOutside, ImproperList, RelationBroken, KeyTooLong, DrawRejected, WordMissing, EntryBeyond, SumAbove, ListsDiffer, HeaderMalformed, OutputShort}
+use Rattle.answers.specs.Outcomes.{numberOf, isDone, unless, forSet, filled}
 
 module _ {ℓ} {A : Type ℓ} where
   pub refused : (r : Bool) (o s : Outcome) (answer : Outcome → A) (x next : A) → o ≡ s → r ≡ isDone o → not r ≡ true → x ≡ answer o → x ≡ unless s answer next
@@ -40,13 +40,17 @@ done-is MaskOutside e = absurd (Chain.differ e)
 done-is ImproperList e = absurd (Chain.differ e)
 done-is RelationBroken e = absurd (Chain.differ e)
 done-is KeyTooLong e = absurd (Chain.differ e)
-done-is Rejected e = absurd (Chain.differ e)
+done-is DrawRejected e = absurd (Chain.differ e)
 done-is WordMissing e = absurd (Chain.differ e)
 done-is (EntryBeyond place) e = absurd (Chain.differ e)
 done-is SumAbove e = absurd (Chain.differ e)
 done-is ListsDiffer e = absurd (Chain.differ e)
 done-is (HeaderMalformed place) e = absurd (Chain.differ e)
 done-is OutputShort e = absurd (Chain.differ e)
+
+-- the number 0 is that of Done alone
+pub zero-is : (o : Outcome) → numberOf o ≡ 0 → o ≡ Done
+zero-is o e = done-is o (eq-eqb (numberOf o) 0 e)
 
 -- a chain that is done passed its first test, and goes on to be done
 module _ (refusal next : Outcome) (no-refusal : isDone refusal ≡ false) where

@@ -8,7 +8,7 @@ use Rattle.sets.specs.declared.Set.{Set}
 use Rattle.sets.specs.declared.Asked.{Asked}
 use Rattle.sets.specs.declared.Asked.the-variants.{Known, Unknown}
 use Rattle.answers.specs.declared.Outcome.{Outcome}
-use Rattle.answers.specs.declared.Outcome.the-variants.{Done, UnknownSet, WrongLength, CoefficientOutside, MaskOutside, ImproperList, RelationBroken, KeyTooLong, Rejected, WordMissing, EntryBeyond, SumAbove, ListsDiffer, HeaderMalformed, OutputShort}
+use Rattle.answers.specs.declared.Outcome.the-variants.{Done, UnknownSet, WrongLength, CoefficientOutside, MaskOutside, ImproperList, RelationBroken, KeyTooLong, DrawRejected, WordMissing, EntryBeyond, SumAbove, ListsDiffer, HeaderMalformed, OutputShort}
 
 -- No.
 abbrev pub numberOf : Outcome → ℕ
@@ -20,7 +20,7 @@ numberOf MaskOutside = 4
 numberOf ImproperList = 5
 numberOf RelationBroken = 6
 numberOf KeyTooLong = 7
-numberOf Rejected = 8
+numberOf DrawRejected = 8
 numberOf WordMissing = 9
 numberOf (EntryBeyond place) = 10
 numberOf SumAbove = 11
@@ -38,7 +38,7 @@ placeOf MaskOutside = 0
 placeOf ImproperList = 0
 placeOf RelationBroken = 0
 placeOf KeyTooLong = 0
-placeOf Rejected = 0
+placeOf DrawRejected = 0
 placeOf WordMissing = 0
 placeOf (EntryBeyond place) = place
 placeOf SumAbove = 0

@@ -5,6 +5,7 @@ use Prim.Native.Nat.{ℕ}
 use contract.Lifetimes.{Lfts}
 use denote.Ref.{now}
 use lib.IntN.{ℤ}
+use Rattle.answers.proofs.Slots.{commitment-out, response-z1, response-z2, rebuild-out, write-out, read-z1, read-z2, read-list, section-number, section-place}
 use Rattle.bursztok.specs.declared.Answer.{Answer}
 use Rattle.bursztok.specs.declared.Response.{Response}
 use Rattle.bursztok.specs.declared.Reading.{Reading}
@@ -20,6 +21,8 @@ use Rattle.bursztok.proofs.bursztok_read.Reads as read
 use Rattle.bursztok.proofs.bursztok_z1_section.Reads as z1-section
 use Rattle.bursztok.proofs.bursztok_z2_section.Reads as z2-section
 use Rattle.bursztok.proofs.bursztok_list_section.Reads as list-section
+use Rattle.bursztok.proofs.bursztok_kappa.Reads as kappa
+use Rattle.bursztok.proofs.bursztok_record_bytes.Reads as record-bytes
 
 -- what an export leaves behind is all in one value
 one-left : {r r′ : Answer} {l l′ : List ℕ} (w : Left) → left r l ≡ w → left r′ l′ ≡ w → (r ≡ r′) × (l ≡ l′)
@@ -40,18 +43,16 @@ key-test-determined κs a r r′ s s′ p q = p ∙ sym q
 
 -- the answer and the output vector
 pub commitment-determined : (κs : Lfts 4) (a : _) (r r′ : _) (s s′ : _) → commitment.Post κs a r s → commitment.Post κs a r′ s′
-    → (r ≡ r′) × (now (s .1 .1 .1 .1 .0) ≡ now (s′ .1 .1 .1 .1 .0))
+    → (r ≡ r′) × (now (commitment-out s) ≡ now (commitment-out s′))
 commitment-determined κs a r r′ s s′ p q = one-left _ p q
 
 -- the answer with the count of words, and both output vectors
 pub respond-determined : (κs : Lfts 10) (a : _) (r r′ : _) (s s′ : _) → respond.Post κs a r s → respond.Post κs a r′ s′
-    → (r ≡ r′)
-    × (now (s .1 .1 .1 .1 .1 .1 .1 .1 .1 .1 .0) ≡ now (s′ .1 .1 .1 .1 .1 .1 .1 .1 .1 .1 .0))
-    × (now (s .1 .1 .1 .1 .1 .1 .1 .1 .1 .1 .1 .0) ≡ now (s′ .1 .1 .1 .1 .1 .1 .1 .1 .1 .1 .1 .0))
+    → (r ≡ r′) × (now (response-z1 s) ≡ now (response-z1 s′)) × (now (response-z2 s) ≡ now (response-z2 s′))
 respond-determined κs a r r′ s s′ p q = one-replied _ p q
 
 pub rebuild-determined : (κs : Lfts 5) (a : _) (r r′ : _) (s s′ : _) → rebuild.Post κs a r s → rebuild.Post κs a r′ s′
-    → (r ≡ r′) × (now (s .1 .1 .1 .1 .1 .0) ≡ now (s′ .1 .1 .1 .1 .1 .0))
+    → (r ≡ r′) × (now (rebuild-out s) ≡ now (rebuild-out s′))
 rebuild-determined κs a r r′ s s′ p q = one-left _ p q
 
 pub compare-determined : (κs : Lfts 2) (a : _) (r r′ : _) (s s′ : _) → compare.Post κs a r s → compare.Post κs a r′ s′ → r ≡ r′
@@ -59,23 +60,29 @@ compare-determined κs a r r′ s s′ p q = p ∙ sym q
 
 -- the answer and the output
 pub write-determined : (κs : Lfts 4) (a : _) (r r′ : _) (s s′ : _) → write.Post κs a r s → write.Post κs a r′ s′
-    → (r ≡ r′) × (now (s .1 .1 .1 .1 .0) ≡ now (s′ .1 .1 .1 .1 .0))
+    → (r ≡ r′) × (now (write-out s) ≡ now (write-out s′))
 write-determined κs a r r′ s s′ p q = one-left _ p q
 
 -- the answer with the set, and the three buffers
 pub read-determined : (κs : Lfts 4) (a : _) (r r′ : _) (s s′ : _) → read.Post κs a r s → read.Post κs a r′ s′
-    → (r ≡ r′) × (now (s .1 .0) ≡ now (s′ .1 .0)) × (now (s .1 .1 .0) ≡ now (s′ .1 .1 .0)) × (now (s .1 .1 .1 .0) ≡ now (s′ .1 .1 .1 .0))
+    → (r ≡ r′) × (now (read-z1 s) ≡ now (read-z1 s′)) × (now (read-z2 s) ≡ now (read-z2 s′)) × (now (read-list s) ≡ now (read-list s′))
 read-determined κs a r r′ s s′ p q = one-stored _ p q
 
 -- the part, the number and the place
 pub z1-section-determined : (κs : Lfts 3) (a : _) (r r′ : _) (s s′ : _) → z1-section.Post κs a r s → z1-section.Post κs a r′ s′
-    → (r ≡ r′) × (now (s .1 .0) ≡ now (s′ .1 .0)) × (now (s .1 .1 .0) ≡ now (s′ .1 .1 .0))
+    → (r ≡ r′) × (now (section-number s) ≡ now (section-number s′)) × (now (section-place s) ≡ now (section-place s′))
 z1-section-determined κs a r r′ s s′ p q = one-located _ p q
 
 pub z2-section-determined : (κs : Lfts 3) (a : _) (r r′ : _) (s s′ : _) → z2-section.Post κs a r s → z2-section.Post κs a r′ s′
-    → (r ≡ r′) × (now (s .1 .0) ≡ now (s′ .1 .0)) × (now (s .1 .1 .0) ≡ now (s′ .1 .1 .0))
+    → (r ≡ r′) × (now (section-number s) ≡ now (section-number s′)) × (now (section-place s) ≡ now (section-place s′))
 z2-section-determined κs a r r′ s s′ p q = one-located _ p q
 
 pub list-section-determined : (κs : Lfts 3) (a : _) (r r′ : _) (s s′ : _) → list-section.Post κs a r s → list-section.Post κs a r′ s′
-    → (r ≡ r′) × (now (s .1 .0) ≡ now (s′ .1 .0)) × (now (s .1 .1 .0) ≡ now (s′ .1 .1 .0))
+    → (r ≡ r′) × (now (section-number s) ≡ now (section-number s′)) × (now (section-place s) ≡ now (section-place s′))
 list-section-determined κs a r r′ s s′ p q = one-located _ p q
+
+pub kappa-determined : (κs : Lfts 0) (a : _) (r r′ : _) (s s′ : _) → kappa.Post κs a r s → kappa.Post κs a r′ s′ → r ≡ r′
+kappa-determined κs a r r′ s s′ p q = p ∙ sym q
+
+pub record-bytes-determined : (κs : Lfts 0) (a : _) (r r′ : _) (s s′ : _) → record-bytes.Post κs a r s → record-bytes.Post κs a r′ s′ → r ≡ r′
+record-bytes-determined κs a r r′ s s′ p q = p ∙ sym q

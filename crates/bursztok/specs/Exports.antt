@@ -9,7 +9,6 @@ use Rattle.answers.specs.declared.Outcome.{Outcome}
 use Rattle.answers.specs.Outcomes.{numberOf, placeOf, Filled, filled}
 use Rattle.signing.specs.Response.{Responded, responded}
 use Rattle.record_forms.specs.Sections.{Fetched, fetched}
-use Rattle.records.specs.Writer.{Written, written}
 use Rattle.records.specs.Reader.{Found, found}
 use Rattle.bursztok.specs.declared.Answer.{Answer}
 use Rattle.bursztok.specs.declared.Response.{Response}
@@ -25,9 +24,6 @@ pub data Left : Type 0 where
 
 abbrev pub leftBy : Filled → Left
 leftBy (filled o out) = left (answerOf o) out
-
-abbrev pub leftByWriter : Written → Left
-leftByWriter (written o out) = left (answerOf o) out
 
 abbrev pub responseWith : Outcome → ℕ → Response
 responseWith o words = record { number = numberOf o; place = placeOf o; words = words }

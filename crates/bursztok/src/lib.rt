@@ -1,18 +1,22 @@
 // The C library: each export is its call, with the answer as numbers. include/bursztok.h declares the same names for C.
 ghost use mathlib.Core.Path.{_≡_};
+ghost use Rattle.sets.specs.Numbers.{kappaOf, totalOf};
 ghost use Rattle.keys.specs.Key.{keyTest};
 ghost use Rattle.commitment.specs.Commitment.{commitment};
 ghost use Rattle.signing.specs.Response.{response};
-ghost use Rattle.checking.specs.Checking.{rebuild, comparison};
+ghost use Rattle.checking.specs.Checking.{claim, rebuild, comparison};
 ghost use Rattle.record_forms.specs.Sections.{z1Section, z2Section, listSection};
 ghost use Rattle.records.specs.Writer.{writingOf};
 ghost use Rattle.records.specs.Reader.{readingOf};
 ghost use lib.ListN.{length};
-ghost use Rattle.bursztok.specs.Exports.{answerOf, left, leftBy, leftByWriter, responseWith, replied, repliedBy, readingWith, stored, storedBy, partAt, located, locatedBy};
+ghost use Rattle.bursztok.specs.Sizes.{kappaAsked, recordBytesAsked};
+ghost use Rattle.bursztok.specs.Exports.{answerOf, left, leftBy, responseWith, replied, repliedBy, readingWith, stored, storedBy, partAt, located, locatedBy};
 use answers::Outcome;
 use record_forms::LIST_OFFSET;
 use record_forms::Z1_OFFSET;
 use record_forms::Z2_OFFSET;
+use sets::Asked;
+use sets::Set;
 
 #[repr(C)]
 pub struct Answer {
@@ -79,8 +83,19 @@ pub extern "C" fn bursztok_respond(
     z2: &mut [i8],
 ) -> Response
     ensures { λ r. ⌜ replied r (now (z1 .exit)) (now (z2 .exit))
-        ≡ repliedBy (response set (now (f .entry)) (now (g .entry)) (now (a .entry)) (now (y1 .entry)) (now (y2 .entry)) (now (list .entry)) sign
-        (now (thresholds .entry)) (now (words .entry)) (now (z1 .entry)) (now (z2 .entry))) ⌝ }
+        ≡ repliedBy (response set (record {
+          f = now (f .entry);
+          g = now (g .entry);
+          a = now (a .entry);
+          y1 = now (y1 .entry);
+          y2 = now (y2 .entry);
+          list = now (list .entry);
+          sign = sign;
+          thresholds = now (thresholds .entry);
+          words = now (words .entry);
+          z1 = now (z1 .entry);
+          z2 = now (z2 .entry);
+        })) ⌝ }
 {
     respond_answer(signing::respond(set, f, g, a, y1, y2, list, sign, thresholds, words, z1, z2))
 }
@@ -94,7 +109,7 @@ pub extern "C" fn bursztok_rebuild(
     list: &[u16],
     out: &mut [u16],
 ) -> Answer
-    ensures { λ r. ⌜ left r (now (out .exit)) ≡ leftBy (rebuild set (now (a .entry)) (now (z1 .entry)) (now (z2 .entry)) (now (list .entry)) (now (out .entry))) ⌝ }
+    ensures { λ r. ⌜ left r (now (out .exit)) ≡ leftBy (rebuild set (now (a .entry)) (claim (now (z1 .entry)) (now (z2 .entry)) (now (list .entry))) (now (out .entry))) ⌝ }
 {
     answered(checking::rebuild(set, a, z1, z2, list, out))
 }
@@ -114,7 +129,7 @@ pub extern "C" fn bursztok_write(
     list: &[u16],
     out: &mut [u8],
 ) -> Answer
-    ensures { λ r. ⌜ left r (now (out .exit)) ≡ leftByWriter (writingOf set (now (z1 .entry)) (now (z2 .entry)) (now (list .entry)) (now (out .entry))) ⌝ }
+    ensures { λ r. ⌜ left r (now (out .exit)) ≡ leftBy (writingOf set (now (z1 .entry)) (now (z2 .entry)) (now (list .entry)) (now (out .entry))) ⌝ }
 {
     answered(records::write(set, z1, z2, list, out))
 }
@@ -201,4 +216,38 @@ fn part_at(number: u32, offset: usize, part: &[u8]) -> Part
             length: part.len() as u64,
         }
     }
+}
+
+// The places of a list of the set that a number asks for; 0 where there is no such set.
+#[no_mangle]
+pub extern "C" fn bursztok_kappa(set: u32) -> u32
+    ensures { λ r. ⌜ r ≡ kappaAsked set ⌝ }
+{
+    match Set::asked(set) {
+        Asked::Unknown => 0,
+        Asked::Known(s) => kappa_of(s),
+    }
+}
+
+// The bytes of a record of that set.
+#[no_mangle]
+pub extern "C" fn bursztok_record_bytes(set: u32) -> u32
+    ensures { λ r. ⌜ r ≡ recordBytesAsked set ⌝ }
+{
+    match Set::asked(set) {
+        Asked::Unknown => 0,
+        Asked::Known(s) => record_bytes_of(s),
+    }
+}
+
+fn kappa_of(s: Set) -> u32
+    ensures { λ r. ⌜ r ≡ kappaOf s ⌝ }
+{
+    s.kappa() as u32
+}
+
+fn record_bytes_of(s: Set) -> u32
+    ensures { λ r. ⌜ r ≡ totalOf s ⌝ }
+{
+    s.total() as u32
 }

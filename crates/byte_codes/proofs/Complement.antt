@@ -14,26 +14,26 @@ use mir.ValLaws.{pow-bits, toZ-pos, toZ-neg}
 use Rattle.laws.proofs.Linear.{above, under, size, difference, eq-out, lt-yes, lt-no, nonneg}
 use Rattle.laws.proofs.Bounds.{cond-ind, abs-mag}
 use Rattle.laws.proofs.Machine.{Reads, given, positive, fits, operation-ok, operation-is, unsigned-ok, unsigned-is, lt-is}
-use Rattle.byte_codes.specs.Bytes.{complement, signed}
+use Rattle.byte_codes.specs.Bytes.{complement, fromComplement}
 
 -- ---- there and back, in any number of binary digits
 module _ (bits : ℕ) where
-  pub signed-low : (x : ℕ) → 2 * x < 2 ^ bits → signed bits x ≡ pos x
-  unfolding signed
-  signed-low x h = rw (lt-ltb _ _ h)
+  pub fromComplement-low : (x : ℕ) → 2 * x < 2 ^ bits → fromComplement bits x ≡ pos x
+  unfolding fromComplement
+  fromComplement-low x h = rw (lt-ltb _ _ h)
 
-  pub signed-high : (x : ℕ) → 2 ^ bits ≤ 2 * x → signed bits x ≡ negsuc (2 ^ bits - suc x)
-  unfolding signed
-  signed-high x h = rw (le-ltb _ _ h)
+  pub fromComplement-high : (x : ℕ) → 2 ^ bits ≤ 2 * x → fromComplement bits x ≡ negsuc (2 ^ bits - suc x)
+  unfolding fromComplement
+  fromComplement-high x h = rw (le-ltb _ _ h)
 
-  pub signed-complement : (z : ℤ) → 2 * natAbs z < 2 ^ bits → signed bits (complement bits z) ≡ z
+  pub fromComplement-complement : (z : ℤ) → 2 * natAbs z < 2 ^ bits → fromComplement bits (complement bits z) ≡ z
   unfolding complement
-  signed-complement (pos n) h = signed-low n h
-  signed-complement (negsuc n) h = signed-high (2 ^ bits - suc n) (omega arith) ∙ ap negsuc (omega arith)
+  fromComplement-complement (pos n) h = fromComplement-low n h
+  fromComplement-complement (negsuc n) h = fromComplement-high (2 ^ bits - suc n) (omega arith) ∙ ap negsuc (omega arith)
 
-  pub complement-signed : (x : ℕ) → x < 2 ^ bits → complement bits (signed bits x) ≡ x
-  unfolding complement signed
-  complement-signed x h =
+  pub complement-fromComplement : (x : ℕ) → x < 2 ^ bits → complement bits (fromComplement bits x) ≡ x
+  unfolding complement fromComplement
+  complement-fromComplement x h =
       cond-ind (ltb (2 * x) (2 ^ bits)) (pos x) (negsuc (2 ^ bits - suc x)) (λ z. complement bits z ≡ x) (λ low. refl) (λ high. back (2 ^ bits) h)
     where
       back : (m : ℕ) → x < m → m - suc (m - suc x) ≡ x
@@ -119,8 +119,8 @@ module _ {w : Width} {a : ℤ} (fit : SFits w a) where
 
 -- reading it
 module _ (w : Width) {x : ℕ} (fit : x < 2 ^ bits w) where
-  pub low-signed : x < 2 ^ hbits w → toZ w x ≡ signed (bits w) x
-  low-signed h = toZ-pos w x h ∙ sym (signed-low (bits w) x (omega (arith, pow-bits w)))
+  pub low-fromComplement : x < 2 ^ hbits w → toZ w x ≡ fromComplement (bits w) x
+  low-fromComplement h = toZ-pos w x h ∙ sym (fromComplement-low (bits w) x (omega (arith, pow-bits w)))
 
   module _ (high : 2 ^ hbits w ≤ x) where
     rest : Reads w (2 ^ bits w - 1 - x) (pos (2 ^ bits w - 1 - x))
@@ -135,6 +135,6 @@ module _ (w : Width) {x : ℕ} (fit : x < 2 ^ bits w) where
     pub unflip-ok : SFits w (toZ w (2 ^ bits w - 1) -ℤ toZ w (2 ^ bits w - 1 - x))
     unflip-ok = operation-ok (minus-one w) rest _-ℤ_ unflip-fits
 
-    pub high-signed : toZ w (ofZ w (toZ w (2 ^ bits w - 1) -ℤ toZ w (2 ^ bits w - 1 - x))) ≡ signed (bits w) x
-    high-signed =
-        operation-is (minus-one w) rest _-ℤ_ unflip-fits .back ∙ unflipped ∙ sym (signed-high (bits w) x (omega (arith, pow-bits w)))
+    pub high-fromComplement : toZ w (ofZ w (toZ w (2 ^ bits w - 1) -ℤ toZ w (2 ^ bits w - 1 - x))) ≡ fromComplement (bits w) x
+    high-fromComplement =
+        operation-is (minus-one w) rest _-ℤ_ unflip-fits .back ∙ unflipped ∙ sym (fromComplement-high (bits w) x (omega (arith, pow-bits w)))

@@ -5,7 +5,7 @@ use Prim.Native.Nat.{ℕ, zero, suc, _+_, _*_, _/_, _%_, _<_}
 use native.Mathlib.Nat.{not-suc-le-zero, le-of-suc-le-suc, one-mul}
 use native.Mathlib.Numerals.{add-one}
 use native.Mathlib.Omega.{arith}
-use lib.ListN.{length, take, drop, getD, set, length-map}
+use lib.ListN.{length, take, drop, getD, set as update, length-map}
 use lib.Seq.{drop-cons}
 use Rattle.laws.proofs.Loops.{Rewritten, more}
 use Rattle.byte_codes.specs.Bytes.{bytesOf, numberIn, packed, unpacked}
@@ -19,14 +19,14 @@ module _ (width : ℕ) (out entries : List ℕ) (long : length out ≡ width * l
   -- one byte more, the j-th of entry i
   byte-more : (i j at : ℕ) {now : List ℕ} (b : ℕ) → i < length entries → j < width → at ≡ width * i + j → at < length out
       → b ≡ getD (bytesOf width (getD entries i 0)) j 0
-      → Rewritten out (packed width entries) at now → Rewritten out (packed width entries) (at + 1) (set now at b)
+      → Rewritten out (packed width entries) at now → Rewritten out (packed width entries) (at + 1) (update now at b)
   byte-more i j at b h k place inside e so =
       more out (packed width entries) packed-fills so 0 b inside (e ∙ sym (packed-at width entries i j h k) ∙ ap (λ (n : ℕ). getD (packed width entries) n 0) (sym place))
 
 module _ (out entries : List ℕ) {i : ℕ} {now : List ℕ} (x : ℕ) (h : i < length entries) (e : x ≡ getD entries i 0) where
   -- an entry of two bytes
   pub two-more : length out ≡ 2 * length entries → Rewritten out (packed 2 entries) (2 * i) now
-      → Rewritten out (packed 2 entries) (2 * (i + 1)) (set (set now (2 * i) (x % 256)) (2 * i + 1) (x / 256 % 256))
+      → Rewritten out (packed 2 entries) (2 * (i + 1)) (update (update now (2 * i) (x % 256)) (2 * i + 1) (x / 256 % 256))
   unfolding bytesOf
   two-more long so =
       let inside : 2 * i < length out = omega arith in
@@ -37,7 +37,7 @@ module _ (out entries : List ℕ) {i : ℕ} {now : List ℕ} (x : ℕ) (h : i < 
       (byte-more 2 out entries long i 0 (2 * i) (x % 256) h (omega arith) (omega arith) inside (ap (λ (n : ℕ). n % 256) e) so))
 
   -- an entry of one byte
-  pub one-more : length out ≡ 1 * length entries → x < 256 → Rewritten out (packed 1 entries) i now → Rewritten out (packed 1 entries) (i + 1) (set now i x)
+  pub one-more : length out ≡ 1 * length entries → x < 256 → Rewritten out (packed 1 entries) i now → Rewritten out (packed 1 entries) (i + 1) (update now i x)
   unfolding bytesOf
   one-more long small so =
       let inside : i < length out = omega arith in
@@ -86,10 +86,10 @@ module _ {A : Type 0} (f : A → ℕ) (entries : List A) (out : List ℕ) where
     at = e ∙ sym (getD-map-inside f entries i a 0 h)
 
     pub map-two-more : {now : List ℕ} → length out ≡ 2 * length entries → Rewritten out (packed 2 (map f entries)) (2 * i) now
-        → Rewritten out (packed 2 (map f entries)) (2 * (i + 1)) (set (set now (2 * i) (x % 256)) (2 * i + 1) (x / 256 % 256))
+        → Rewritten out (packed 2 (map f entries)) (2 * (i + 1)) (update (update now (2 * i) (x % 256)) (2 * i + 1) (x / 256 % 256))
     map-two-more long so = two-more out (map f entries) x inside at (map-long 2 long) so
 
-    pub map-one-more : {now : List ℕ} → length out ≡ 1 * length entries → x < 256 → Rewritten out (packed 1 (map f entries)) i now → Rewritten out (packed 1 (map f entries)) (i + 1) (set now i x)
+    pub map-one-more : {now : List ℕ} → length out ≡ 1 * length entries → x < 256 → Rewritten out (packed 1 (map f entries)) i now → Rewritten out (packed 1 (map f entries)) (i + 1) (update now i x)
     map-one-more long small so = one-more out (map f entries) x inside at (map-long 1 long) small so
 
 module _ {B : Type 0} (f : ℕ → B) (width : ℕ) (bytes : List ℕ) (entries : List B) where
@@ -97,7 +97,7 @@ module _ {B : Type 0} (f : ℕ → B) (width : ℕ) (bytes : List ℕ) (entries 
   map-unpacked-fills = length-map (unpacked width (length entries) bytes) f ∙ length-unpacked width (length entries) bytes
 
   pub map-more : {i : ℕ} {now : List B} (b y : B) (x : ℕ) → i < length entries → x ≡ getD (unpacked width (length entries) bytes) i 0 → y ≡ f x
-      → Rewritten entries (map f (unpacked width (length entries) bytes)) i now → Rewritten entries (map f (unpacked width (length entries) bytes)) (i + 1) (set now i y)
+      → Rewritten entries (map f (unpacked width (length entries) bytes)) i now → Rewritten entries (map f (unpacked width (length entries) bytes)) (i + 1) (update now i y)
   map-more {i} b y x h e k so =
       let inside : i < length (unpacked width (length entries) bytes) = rw (length-unpacked width (length entries) bytes) h in
       more entries (map f (unpacked width (length entries) bytes)) map-unpacked-fills so b y h

@@ -5,8 +5,8 @@ use Prim.Native.Nat.{ℕ, zero, suc, _*_, _^_, _<_}
 use lib.IntN.{ℤ, pos, natAbs}
 use lib.ListN.{length, getD, length-map}
 use lib.Pow.{pow-pos}
-use Rattle.byte_codes.specs.Bytes.{packed, unpacked, complement, signed}
-use Rattle.byte_codes.proofs.Complement.{signed-complement, complement-signed, complement-below}
+use Rattle.byte_codes.specs.Bytes.{packed, unpacked, complement, fromComplement}
+use Rattle.byte_codes.proofs.Complement.{fromComplement-complement, complement-fromComplement, complement-below}
 use Rattle.byte_codes.proofs.Sections.{unpacked-packed, packed-unpacked, unpacked-below}
 
 -- what goes there and back entry by entry does so as a whole
@@ -23,15 +23,15 @@ module _ (bits : ℕ) where
   -- in as many bytes as hold the bits
   module _ (width : ℕ) (holds : 256 ^ width ≡ 2 ^ bits) where
     pub numbers-back : (entries : List ℤ) (count : ℕ) → length entries ≡ count → ((k : ℕ) → 2 * natAbs (getD entries k (pos 0)) < 2 ^ bits)
-        → map (signed bits) (unpacked width count (packed width (map (complement bits) entries))) ≡ entries
+        → map (fromComplement bits) (unpacked width count (packed width (map (complement bits) entries))) ≡ entries
     numbers-back entries count long small =
-        ap (λ (n : ℕ). map (signed bits) (unpacked width n (packed width (map (complement bits) entries)))) (sym (length-map entries (complement bits) ∙ long))
-        ∙ ap (map (signed bits)) (unpacked-packed width (map (complement bits) entries) (λ k. rw holds (complements-below entries small k)))
-        ∙ map-back (complement bits) (signed bits) entries (pos 0) (λ k. signed-complement bits (getD entries k (pos 0)) (small k))
+        ap (λ (n : ℕ). map (fromComplement bits) (unpacked width n (packed width (map (complement bits) entries)))) (sym (length-map entries (complement bits) ∙ long))
+        ∙ ap (map (fromComplement bits)) (unpacked-packed width (map (complement bits) entries) (λ k. rw holds (complements-below entries small k)))
+        ∙ map-back (complement bits) (fromComplement bits) entries (pos 0) (λ k. fromComplement-complement bits (getD entries k (pos 0)) (small k))
 
     pub bytes-back : (count : ℕ) (bytes : List ℕ) → length bytes ≡ width * count → ((k : ℕ) → getD bytes k 0 < 256)
-        → packed width (map (complement bits) (map (signed bits) (unpacked width count bytes))) ≡ bytes
+        → packed width (map (complement bits) (map (fromComplement bits) (unpacked width count bytes))) ≡ bytes
     bytes-back count bytes long small =
-        ap (packed width) (map-back (signed bits) (complement bits) (unpacked width count bytes) 0
-        (λ k. complement-signed bits _ (rw (← holds) (unpacked-below width count bytes small k))))
+        ap (packed width) (map-back (fromComplement bits) (complement bits) (unpacked width count bytes) 0
+        (λ k. complement-fromComplement bits _ (rw (← holds) (unpacked-below width count bytes small k))))
         ∙ packed-unpacked width count bytes long small

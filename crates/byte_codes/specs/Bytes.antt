@@ -35,5 +35,5 @@ complement bits (pos n) = n
 complement bits (negsuc n) = 2 ^ bits - suc n
 
 -- the whole number that has this two's complement: from half the range on it is negative
-unfoldable pub signed : ℕ → ℕ → ℤ
-signed bits x = cond (ltb (2 * x) (2 ^ bits)) (pos x) (negsuc (2 ^ bits - suc x))
+unfoldable pub fromComplement : ℕ → ℕ → ℤ
+fromComplement bits x = cond (ltb (2 * x) (2 ^ bits)) (pos x) (negsuc (2 ^ bits - suc x))

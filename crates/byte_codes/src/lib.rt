@@ -3,7 +3,7 @@ ghost use mathlib.Core.Path.{_≡_};
 ghost use mathlib.Core.List.{map};
 ghost use Prim.Native.Nat.{_+_, _*_, _/_, _%_, _<_};
 ghost use lib.ListN.{length, getD, set};
-ghost use Rattle.byte_codes.specs.Bytes.{packed, unpacked, complement, signed};
+ghost use Rattle.byte_codes.specs.Bytes.{packed, unpacked, complement, fromComplement};
 
 // The two bytes of a number, at a place and the one after it.
 pub fn put_number(out: &mut [u8], at: usize, x: u16)
@@ -44,7 +44,7 @@ pub fn bits8(a: i8) -> u8
 }
 
 pub fn signed16(x: u16) -> i16
-    ensures { λ r. ⌜ r ≡ signed 16 x ⌝ }
+    ensures { λ r. ⌜ r ≡ fromComplement 16 x ⌝ }
 {
     if x < 32768 {
         x as i16
@@ -54,7 +54,7 @@ pub fn signed16(x: u16) -> i16
 }
 
 pub fn signed8(x: u8) -> i8
-    ensures { λ r. ⌜ r ≡ signed 8 x ⌝ }
+    ensures { λ r. ⌜ r ≡ fromComplement 8 x ⌝ }
 {
     if x < 128 {
         x as i8
@@ -112,7 +112,7 @@ pub fn pack_places(entries: &[u16], out: &mut [u8])
 
 pub fn unpack_wide(bytes: &[u8], entries: &mut [i16])
     requires { ⌜ length (now bytes) ≡ 2 * length (now entries) ⌝ }
-    ensures { λ _. ⌜ now (entries .exit) ≡ map (signed 16) (unpacked 2 (length (now (entries .entry))) (now (bytes .entry))) ⌝ }
+    ensures { λ _. ⌜ now (entries .exit) ≡ map (fromComplement 16) (unpacked 2 (length (now (entries .entry))) (now (bytes .entry))) ⌝ }
 {
     let mut i = 0;
     while i < entries.len() {
@@ -123,7 +123,7 @@ pub fn unpack_wide(bytes: &[u8], entries: &mut [i16])
 
 pub fn unpack_narrow(bytes: &[u8], entries: &mut [i8])
     requires { ⌜ length (now bytes) ≡ 1 * length (now entries) ⌝ }
-    ensures { λ _. ⌜ now (entries .exit) ≡ map (signed 8) (unpacked 1 (length (now (entries .entry))) (now (bytes .entry))) ⌝ }
+    ensures { λ _. ⌜ now (entries .exit) ≡ map (fromComplement 8) (unpacked 1 (length (now (entries .entry))) (now (bytes .entry))) ⌝ }
 {
     let mut i = 0;
     while i < entries.len() {

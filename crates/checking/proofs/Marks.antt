@@ -9,7 +9,7 @@ use native.Mathlib.Omega.{arith}
 use borrow.Author.Tests.{eq-eqb, ne-eqb}
 use lib.Dec.{eqb}
 use lib.IntN.{ℤ, pos}
-use lib.ListN.{length, take, getD, set, replicate, length-set, length-replicate, getD-replicate}
+use lib.ListN.{length, take, getD, set as update, replicate, length-set, length-replicate, getD-replicate}
 use lib.Seq.{take-suc, getD-set-same, getD-set-other}
 use Rattle.laws.proofs.Entries.{is-tabulate, getD-tabulate, length-tabulate}
 use Rattle.sets.specs.Numbers.{dimension, modulus}
@@ -51,21 +51,21 @@ mark-here l i = rw (listed-more l i i, eq-eqb i i refl, or-true (listed l i))
 mark-other : (l : List ℕ) (i k : ℕ) → (i ≡ k → ⊥) → mark (l ++ (i ∷ [])) k ≡ mark l k
 mark-other l i k n = rw (listed-more l i k, ne-eqb i k n, or-false (listed l k))
 
-at-place : (l : List ℕ) (i k : ℕ) → i < dimension → k < dimension → getD (set (marks l) i (pos modulus)) k (pos 0) ≡ mark (l ++ (i ∷ [])) k
+at-place : (l : List ℕ) (i k : ℕ) → i < dimension → k < dimension → getD (update (marks l) i (pos modulus)) k (pos 0) ≡ mark (l ++ (i ∷ [])) k
 at-place l i k h j = pick (ℕ-discrete i k)
   where
-    pick : Dec (i ≡ k) → getD (set (marks l) i (pos modulus)) k (pos 0) ≡ mark (l ++ (i ∷ [])) k
+    pick : Dec (i ≡ k) → getD (update (marks l) i (pos modulus)) k (pos 0) ≡ mark (l ++ (i ∷ [])) k
     pick (yes e) =
-        ap (λ (n : ℕ). getD (set (marks l) i (pos modulus)) n (pos 0)) (sym e)
+        ap (λ (n : ℕ). getD (update (marks l) i (pos modulus)) n (pos 0)) (sym e)
         ∙ getD-set-same (marks l) i (pos modulus) (pos 0) (omega (arith, length-marks l))
         ∙ sym (mark-here l i) ∙ ap (mark (l ++ (i ∷ []))) e
     pick (no n) =
         getD-set-other (marks l) i k (pos modulus) (pos 0) (λ e. n (sym e)) ∙ getD-marks l k j ∙ sym (mark-other l i k n)
 
-marks-more : (l : List ℕ) (i : ℕ) → i < dimension → set (marks l) i (pos modulus) ≡ marks (l ++ (i ∷ []))
+marks-more : (l : List ℕ) (i : ℕ) → i < dimension → update (marks l) i (pos modulus) ≡ marks (l ++ (i ∷ []))
 unfolding marks
 marks-more l i h =
-    is-tabulate (mark (l ++ (i ∷ []))) dimension (pos 0) (set (marks l) i (pos modulus)) (length-set (marks l) i (pos modulus) ∙ length-marks l)
+    is-tabulate (mark (l ++ (i ∷ []))) dimension (pos 0) (update (marks l) i (pos modulus)) (length-set (marks l) i (pos modulus) ∙ length-marks l)
     (λ k j. at-place l i k h j)
 
 -- ---- a loop over the list
@@ -73,5 +73,5 @@ pub marks-none : replicate dimension (pos 0) ≡ marks []
 unfolding marks listed
 marks-none = is-tabulate (mark []) dimension (pos 0) (replicate dimension (pos 0)) (length-replicate dimension (pos 0)) (λ k h. getD-replicate dimension k (pos 0) (pos 0) h)
 
-pub marks-next : (l : List ℕ) (j : ℕ) → j < length l → getD l j 0 < dimension → set (marks (take j l)) (getD l j 0) (pos modulus) ≡ marks (take (j + 1) l)
+pub marks-next : (l : List ℕ) (j : ℕ) → j < length l → getD l j 0 < dimension → update (marks (take j l)) (getD l j 0) (pos modulus) ≡ marks (take (j + 1) l)
 marks-next l j h p = marks-more (take j l) (getD l j 0) p ∙ ap marks (sym (take-suc l j 0 h) ∙ ap (λ (n : ℕ). take n l) (sym (add-one j)))

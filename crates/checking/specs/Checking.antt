@@ -13,29 +13,39 @@ use Rattle.answers.specs.Outcomes.{unless, forSet, Filled, filled}
 use Rattle.rounding.specs.Rounding.{restored}
 use Rattle.vectors.specs.Places.{properList, listed}
 use Rattle.limits.specs.LengthRule.{lengthRule}
-use Rattle.keys.specs.Key.{isResidue, sized}
+use Rattle.vectors.specs.Vectors.{sized}
+use Rattle.keys.specs.Key.{isResidue}
 use Rattle.commitment.specs.Commitment.{sums}
+
+-- what the checker is sent: z1, z2 dagger and the list
+pub record Claim : Type 0 where
+  pub z1 : List ℤ
+  pub z2 : List ℤ
+  pub list : List ℕ
+
+abbrev pub claim : List ℤ → List ℤ → List ℕ → Claim
+claim z1 z2 list = record { z1 = z1; z2 = z2; list = list }
 
 -- 12289 at each listed place
 unfoldable pub marks : List ℕ → List ℤ
 marks l = tabulate (λ k. cond (listed l k) (pos modulus) (pos 0)) dimension
 
 -- the upper digits of (12288 t + 12289 at each listed place, modulo 24578), where t = a times z1 modulo q; plus z2 dagger, modulo p
-unfoldable pub rebuilt : Set → List ℕ → List ℤ → List ℤ → List ℕ → List ℕ
-rebuilt s a z1 z2 l = zipWith (restored s) (sums a z1 (marks l)) z2
+unfoldable pub rebuilt : Set → List ℕ → Claim → List ℕ
+rebuilt s a c = zipWith (restored s) (sums a (c .z1) (marks (c .list))) (c .z2)
 
 -- the rebuild for a set: 2, 3, 5, 10, 11; `out` is what the output vector held before
-abbrev pub rebuildFor : Set → List ℕ → List ℤ → List ℤ → List ℕ → List ℕ → Filled
-rebuildFor s a z1 z2 l out =
-    must (sized a && (sized z1 && (sized z2 && sized out))) (filled WrongLength out)
+abbrev pub rebuildFor : Set → List ℕ → Claim → List ℕ → Filled
+rebuildFor s a c out =
+    must (sized a && (sized (c .z1) && (sized (c .z2) && sized out))) (filled WrongLength out)
     (must (every isResidue a) (filled CoefficientOutside out)
-    (must (properList s l) (filled ImproperList out)
-    (unless (lengthRule s z1 z2) (λ o. filled o out)
-    (filled Done (rebuilt s a z1 z2 l)))))
+    (must (properList s (c .list)) (filled ImproperList out)
+    (unless (lengthRule s (c .z1) (c .z2)) (λ o. filled o out)
+    (filled Done (rebuilt s a c)))))
 
 -- the rebuild: 1, 2, 3, 5, 10, 11
-unfoldable pub rebuild : ℕ → List ℕ → List ℤ → List ℤ → List ℕ → List ℕ → Filled
-rebuild set a z1 z2 l out = forSet (askedOf set) (filled UnknownSet out) (λ s. rebuildFor s a z1 z2 l out)
+unfoldable pub rebuild : ℕ → List ℕ → Claim → List ℕ → Filled
+rebuild set a c out = forSet (askedOf set) (filled UnknownSet out) (λ s. rebuildFor s a c out)
 
 -- the comparison for a set: 5, 12
 abbrev pub comparisonFor : Set → List ℕ → List ℕ → Outcome

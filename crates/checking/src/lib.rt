@@ -10,14 +10,14 @@ ghost use Rattle.answers.specs.Outcomes.{filled};
 ghost use Rattle.rounding.specs.Rounding.{restored};
 ghost use Rattle.vectors.specs.Places.{isPlace, properList};
 ghost use Rattle.commitment.specs.Commitment.{isReduced};
-ghost use Rattle.checking.specs.Checking.{marks, rebuilt, rebuild as rebuildOf, rebuildFor, comparison as comparisonOf, comparisonFor};
+ghost use Rattle.checking.specs.Checking.{claim, marks, rebuilt, rebuild as rebuildOf, rebuildFor, comparison as comparisonOf, comparisonFor};
 use answers::Outcome;
 use sets::Asked;
 use sets::Set;
 
 // The rebuild: refusals 1, 2, 3, 5, 10, 11.
 pub fn rebuild(set: u32, a: &[u16], z1: &[i16], z2: &[i8], list: &[u16], out: &mut [u16]) -> Outcome
-    ensures { λ r. ⌜ filled r (now (out .exit)) ≡ rebuildOf set (now (a .entry)) (now (z1 .entry)) (now (z2 .entry)) (now (list .entry)) (now (out .entry)) ⌝ }
+    ensures { λ r. ⌜ filled r (now (out .exit)) ≡ rebuildOf set (now (a .entry)) (claim (now (z1 .entry)) (now (z2 .entry)) (now (list .entry))) (now (out .entry)) ⌝ }
 {
     match Set::asked(set) {
         Asked::Unknown => Outcome::UnknownSet,
@@ -26,7 +26,7 @@ pub fn rebuild(set: u32, a: &[u16], z1: &[i16], z2: &[i8], list: &[u16], out: &m
 }
 
 fn rebuild_for(s: Set, a: &[u16], z1: &[i16], z2: &[i8], list: &[u16], out: &mut [u16]) -> Outcome
-    ensures { λ r. ⌜ filled r (now (out .exit)) ≡ rebuildFor s (now (a .entry)) (now (z1 .entry)) (now (z2 .entry)) (now (list .entry)) (now (out .entry)) ⌝ }
+    ensures { λ r. ⌜ filled r (now (out .exit)) ≡ rebuildFor s (now (a .entry)) (claim (now (z1 .entry)) (now (z2 .entry)) (now (list .entry))) (now (out .entry)) ⌝ }
 {
     if !vectors::four_sized(a.len(), z1.len(), z2.len(), out.len()) {
         return Outcome::WrongLength;
@@ -48,7 +48,7 @@ fn rebuild_for(s: Set, a: &[u16], z1: &[i16], z2: &[i8], list: &[u16], out: &mut
 fn restore(s: Set, a: &[u16], z1: &[i16], z2: &[i8], list: &[u16], out: &mut [u16])
     requires { ⌜ (length (now a) ≡ dimension) × (length (now z1) ≡ dimension) × (length (now z2) ≡ dimension) × (length (now out) ≡ dimension) ⌝ }
     requires { ⌜ (every isPlace (now list) ≡ true) × ((k : ℕ) → natAbs (getD (now z2) k (pos 0)) < pOf s) ⌝ }
-    ensures { λ _. ⌜ now (out .exit) ≡ rebuilt s (now (a .entry)) (now (z1 .entry)) (now (z2 .entry)) (now (list .entry)) ⌝ }
+    ensures { λ _. ⌜ now (out .exit) ≡ rebuilt s (now (a .entry)) (claim (now (z1 .entry)) (now (z2 .entry)) (now (list .entry))) ⌝ }
 {
     let mut marked = [0i16; Set::DIMENSION];
     mark(list, &mut marked);
@@ -75,8 +75,10 @@ fn restore_all(s: Set, w: &[u32], z2: &[i8], out: &mut [u16])
     requires { ⌜ isReduced (now w) × ((k : ℕ) → natAbs (getD (now z2) k (pos 0)) < pOf s) ⌝ }
     ensures { λ _. ⌜ now (out .exit) ≡ zipWith (restored s) (now (w .entry)) (now (z2 .entry)) ⌝ }
 {
+    let d = s.d();
+    let p = s.p();
     for i in 0..Set::DIMENSION {
-        out[i] = rounding::restored(s, w[i], z2[i]);
+        out[i] = rounding::restored(s, d, p, w[i], z2[i]);
     }
 }
 
@@ -111,7 +113,7 @@ fn both_proper(s: Set, claimed: &[u16], hashed: &[u16]) -> bool
     vectors::is_proper(s, hashed)
 }
 
-fn same(x: &[u16], y: &[u16]) -> bool
+pub fn same(x: &[u16], y: &[u16]) -> bool
     requires { ⌜ length (now x) ≡ length (now y) ⌝ }
     ensures { λ r. ⌜ r ≡ sameOf (now (x .entry)) (now (y .entry)) ⌝ }
 {

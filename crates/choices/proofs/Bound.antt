@@ -16,7 +16,8 @@ use Rattle.polynomials.proofs.Shift.{length-shift}
 use Rattle.vectors.specs.Vectors.{squares}
 use Rattle.vectors.proofs.Greedy.{add-pair-bound, subtract-pair-bound}
 use Rattle.vectors.proofs.Lengths.{squares-turned}
-use Rattle.choices.specs.Choices.{Pair, pair, column, squaresPair, innerPair, signed, choice, chosen, chooseFrom, choices, zeros}
+use Rattle.vectors.specs.Pairs.{Pair, pair, squaresPair, innerPair}
+use Rattle.choices.specs.Choices.{column, addedIf, choice, chosen, chooseFrom, choices, zeros}
 use Rattle.choices.proofs.Pairs.{Sized}
 
 -- ---- a column has the key's size
@@ -46,7 +47,7 @@ module _ (v c : Pair) (hv : Sized v) (hc : Sized c) where
   squares-chosen = pick (ltZ (innerPair v c) (pos 0)) refl
     where
       pick : (b : Bool) → ltZ (innerPair v c) (pos 0) ≡ b
-          → squares (zipWith (signed b) (v .first) (c .first)) + squares (zipWith (signed b) (v .second) (c .second)) ≤ squaresPair v + squaresPair c
+          → squares (zipWith (addedIf b) (v .first) (c .first)) + squares (zipWith (addedIf b) (v .second) (c .second)) ≤ squaresPair v + squaresPair c
       pick true e = omega (arith, add-pair-bound (v .first) (c .first) (v .second) (c .second) (omega arith) (omega arith) (ltZ-yes (rw e tt)))
       pick false e = omega (arith, subtract-pair-bound (v .first) (c .first) (v .second) (c .second) (omega arith) (omega arith) (ltZ-no (rw e tt)))
 

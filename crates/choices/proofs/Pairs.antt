@@ -14,7 +14,8 @@ use Rattle.sets.specs.Numbers.{dimension}
 use Rattle.vectors.specs.Vectors.{squares, inner}
 use Rattle.vectors.proofs.Lengths.{sizes-le-times}
 use Rattle.vectors.proofs.Sums.{inner-le-sizes}
-use Rattle.choices.specs.Choices.{Pair, squaresPair, innerPair, signed}
+use Rattle.vectors.specs.Pairs.{Pair, squaresPair, innerPair}
+use Rattle.choices.specs.Choices.{addedIf}
 
 -- both vectors have 512 entries
 pub record Sized (v : Pair) : Type 0 where
@@ -40,20 +41,20 @@ inner-bound bound z v h =
     )
 
 -- ---- sums and differences of vectors
-signed-size : (b : Bool) (x y : ℤ) → natAbs (signed b x y) ≤ natAbs x + natAbs y
-signed-size true = abs-add
-signed-size false = abs-sub
+addedIf-size : (b : Bool) (x y : ℤ) → natAbs (addedIf b x y) ≤ natAbs x + natAbs y
+addedIf-size true = abs-add
+addedIf-size false = abs-sub
 
 module _ (b : Bool) (x c : List ℤ) (same : length x ≡ length c) (k : ℕ) where
   -- entry by entry
-  pub signed-at : getD (zipWith (signed b) x c) k (pos 0) ≡ signed b (getD x k (pos 0)) (getD c k (pos 0))
-  signed-at = pick b
+  pub addedIf-at : getD (zipWith (addedIf b) x c) k (pos 0) ≡ addedIf b (getD x k (pos 0)) (getD c k (pos 0))
+  addedIf-at = pick b
     where
-      pick : (b : Bool) → getD (zipWith (signed b) x c) k (pos 0) ≡ signed b (getD x k (pos 0)) (getD c k (pos 0))
-      pick true = getD-zipWith-anywhere (signed true) x c k (pos 0) (pos 0) same
-      pick false = getD-zipWith-anywhere (signed false) x c k (pos 0) (pos 0) same
+      pick : (b : Bool) → getD (zipWith (addedIf b) x c) k (pos 0) ≡ addedIf b (getD x k (pos 0)) (getD c k (pos 0))
+      pick true = getD-zipWith-anywhere (addedIf true) x c k (pos 0) (pos 0) same
+      pick false = getD-zipWith-anywhere (addedIf false) x c k (pos 0) (pos 0) same
 
   -- bounds add up
-  pub signed-within : (m n : ℕ) → natAbs (getD x k (pos 0)) ≤ m → natAbs (getD c k (pos 0)) ≤ n
-      → natAbs (getD (zipWith (signed b) x c) k (pos 0)) ≤ m + n
-  signed-within m n h j = omega (arith, ap natAbs signed-at, signed-size b (getD x k (pos 0)) (getD c k (pos 0)))
+  pub addedIf-within : (m n : ℕ) → natAbs (getD x k (pos 0)) ≤ m → natAbs (getD c k (pos 0)) ≤ n
+      → natAbs (getD (zipWith (addedIf b) x c) k (pos 0)) ≤ m + n
+  addedIf-within m n h j = omega (arith, ap natAbs addedIf-at, addedIf-size b (getD x k (pos 0)) (getD c k (pos 0)))

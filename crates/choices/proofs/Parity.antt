@@ -14,10 +14,11 @@ use Rattle.polynomials.proofs.One.{length-one}
 use Rattle.polynomials.proofs.Operations.{linear-cong}
 use Rattle.polynomials.proofs.Shift.{shift-keeps}
 use Rattle.vectors.specs.Places.{isPlace, rising, listed}
-use Rattle.choices.specs.Choices.{Pair, choices, zeros}
+use Rattle.vectors.specs.Pairs.{Pair}
+use Rattle.choices.specs.Choices.{choices, zeros}
 use Rattle.choices.specs.Signs.{signedSum, signs}
 use Rattle.choices.proofs.Pairs.{Sized}
-use Rattle.choices.proofs.Sums.{choices-sums, signed-linear, signed-length, column-at, sums-keep}
+use Rattle.choices.proofs.Sums.{choices-sums, addedIf-linear, addedIf-length, column-at, sums-keep}
 use Rattle.choices.proofs.Places.{signs-listed, signs-elsewhere}
 
 -- 1 and -1 are odd
@@ -35,10 +36,10 @@ module _ (s : Pair) (key : Sized s) (l : List ℕ) (places : every isPlace l ≡
   sum-cong m t u lt lu c k =
       sums-keep t u (λ n x y. (length x ≡ dimension) × (length y ≡ dimension) × Cong m (getD x k (pos 0)) (getD y k (pos 0)))
       (λ b n i x y h r. (
-        signed-length b i x t (r .0) lt,
-        signed-length b i y u (r .1) lu,
+        addedIf-length b i x t (r .0) lt,
+        addedIf-length b i y u (r .1) lu,
         rw (column-at b i x t (r .0) lt k, column-at b i y u (r .1) lu k)
-            (linear-cong (signed-linear b) (r .2) (shift-keeps (Cong m) (cong-refl (pos 0)) (λ y z d. cong-neg d) t u lt lu c i k (omega arith))),
+            (linear-cong (addedIf-linear b) (r .2) (shift-keeps (Cong m) (cong-refl (pos 0)) (λ y z d. cong-neg d) t u lt lu c i k (omega arith))),
       )) s l places (length-replicate dimension (pos 0), length-replicate dimension (pos 0), cong-refl (getD zeros k (pos 0))) .2
 
   module _ (parity : (k : ℕ) → Cong 2 (getD (s .second) k (pos 0)) (getD one k (pos 0))) where

@@ -16,9 +16,10 @@ use Rattle.polynomials.specs.Product.{shift, one}
 use Rattle.polynomials.proofs.One.{length-one, power-here, power-elsewhere}
 use Rattle.vectors.specs.Places.{isPlace, rising, listed}
 use Rattle.vectors.proofs.Rising.{rising-tail}
-use Rattle.choices.specs.Choices.{Pair, pair, column, innerPair, signed, choice, chosen, zeros}
+use Rattle.vectors.specs.Pairs.{Pair, pair, innerPair}
+use Rattle.choices.specs.Choices.{column, addedIf, choice, chosen, zeros}
 use Rattle.choices.specs.Signs.{sumFrom, signedSum, signs}
-use Rattle.choices.proofs.Sums.{signed-length, column-at, first-place, other-places, sums-keep}
+use Rattle.choices.proofs.Sums.{addedIf-length, column-at, first-place, other-places, sums-keep}
 
 -- ---- lists that rise list a place once
 rising-after : (i k : ℕ) (l : List ℕ) → rising (i ∷ l) ≡ true → k ≤ i → listed l k ≡ false
@@ -33,26 +34,26 @@ neither false q e = (refl, e)
 neither true q e = absurd (differ (sym e))
 
 -- ---- the walk that makes c'
-signed-zero : (b : Bool) (z : ℤ) → signed b z (pos 0) ≡ z
-signed-zero true z = +ℤ-idr z
-signed-zero false z = +ℤ-idr z
+addedIf-zero : (b : Bool) (z : ℤ) → addedIf b z (pos 0) ≡ z
+addedIf-zero true z = +ℤ-idr z
+addedIf-zero false z = +ℤ-idr z
 
-signed-one : (b : Bool) → natAbs (signed b (pos 0) (pos 1)) ≡ 1
-signed-one true = refl
-signed-one false = refl
+addedIf-one : (b : Bool) → natAbs (addedIf b (pos 0) (pos 1)) ≡ 1
+addedIf-one true = refl
+addedIf-one false = refl
 
 module _ (s : Pair) (k : ℕ) (inside : k < dimension) where
   module _ (b : Bool) (i : ℕ) (place : i < dimension) (x : List ℤ) (lx : length x ≡ dimension) where
     -- x^i changes place i alone
-    elsewhere : eqb i k ≡ false → getD (zipWith (signed b) x (shift i one)) k (pos 0) ≡ getD x k (pos 0)
+    elsewhere : eqb i k ≡ false → getD (zipWith (addedIf b) x (shift i one)) k (pos 0) ≡ getD x k (pos 0)
     elsewhere other =
-        column-at b i x one lx length-one k ∙ ap (signed b (getD x k (pos 0))) (power-elsewhere i k place inside (eqb-false i k other))
-        ∙ signed-zero b (getD x k (pos 0))
+        column-at b i x one lx length-one k ∙ ap (addedIf b (getD x k (pos 0))) (power-elsewhere i k place inside (eqb-false i k other))
+        ∙ addedIf-zero b (getD x k (pos 0))
 
-    here : eqb i k ≡ true → getD x k (pos 0) ≡ pos 0 → natAbs (getD (zipWith (signed b) x (shift i one)) k (pos 0)) ≡ 1
+    here : eqb i k ≡ true → getD x k (pos 0) ≡ pos 0 → natAbs (getD (zipWith (addedIf b) x (shift i one)) k (pos 0)) ≡ 1
     here same e =
         let at : getD (shift i one) k (pos 0) ≡ pos 1 = rw (sym (eqb-true i k same)) (power-here i place) in
-        ap natAbs (column-at b i x one lx length-one k ∙ ap₂ (signed b) e at) ∙ signed-one b
+        ap natAbs (column-at b i x one lx length-one k ∙ ap₂ (addedIf b) e at) ∙ addedIf-one b
 
   -- a place that is not listed keeps its entry
   kept : (l : List ℕ) → every isPlace l ≡ true → listed l k ≡ false → (v : Pair) (x : List ℤ) → length x ≡ dimension
@@ -62,7 +63,7 @@ module _ (s : Pair) (k : ℕ) (inside : k < dimension) where
   kept (i ∷ l) e n v x lx =
       let b = ltZ (innerPair v (column i s)) (pos 0) in
       kept l (other-places i l e) (neither (eqb i k) (listed l k) n .1) (chosen v (column i s)) (zipWith (choice v (column i s)) x (shift i one))
-      (signed-length b i x one lx length-one)
+      (addedIf-length b i x one lx length-one)
       ∙ elsewhere b i (first-place i l e) x lx (neither (eqb i k) (listed l k) n .0)
 
   -- a place that is listed once gets 1 or -1
@@ -71,7 +72,7 @@ module _ (s : Pair) (k : ℕ) (inside : k < dimension) where
   unfolding sumFrom listed
   marked [] e r n v x lx z = absurd (differ n)
   marked (i ∷ l) e r n v x lx z =
-      pick (eqb i k) refl n (λ m. marked l (other-places i l e) (rising-tail i l r) m (chosen v (column i s)) next (signed-length b i x one lx length-one))
+      pick (eqb i k) refl n (λ m. marked l (other-places i l e) (rising-tail i l r) m (chosen v (column i s)) next (addedIf-length b i x one lx length-one))
     where
       b : Bool
       b = ltZ (innerPair v (column i s)) (pos 0)
@@ -87,7 +88,7 @@ module _ (s : Pair) (k : ℕ) (inside : k < dimension) where
           → natAbs (getD (sumFrom s l (chosen v (column i s)) one next) k (pos 0)) ≡ 1
       pick true same n rest =
           let after : listed l k ≡ false = rising-after i k l r (omega (arith, eqb-true i k same)) in
-          ap natAbs (kept l (other-places i l e) after (chosen v (column i s)) next (signed-length b i x one lx length-one)) ∙ here b i place x lx same z
+          ap natAbs (kept l (other-places i l e) after (chosen v (column i s)) next (addedIf-length b i x one lx length-one)) ∙ here b i place x lx same z
       pick false other n rest = rest n (elsewhere b i place x lx other ∙ z)
 
 module _ (s : Pair) (l : List ℕ) (places : every isPlace l ≡ true) where
@@ -95,7 +96,7 @@ module _ (s : Pair) (l : List ℕ) (places : every isPlace l ≡ true) where
   pub length-signs : length (signs s l) ≡ dimension
   unfolding signs
   length-signs =
-      sums-keep one one (λ n x y. length x ≡ dimension) (λ b n i x y h lx. signed-length b i x one lx length-one) s l places
+      sums-keep one one (λ n x y. length x ≡ dimension) (λ b n i x y h lx. addedIf-length b i x one lx length-one) s l places
       (length-replicate dimension (pos 0))
 
 module _ (s : Pair) (l : List ℕ) (places : every isPlace l ≡ true) (k : ℕ) (inside : k < dimension) where

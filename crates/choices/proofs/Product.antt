@@ -14,10 +14,11 @@ use Rattle.polynomials.proofs.One.{length-one, times-one}
 use Rattle.polynomials.proofs.Shift.{length-shift}
 use Rattle.polynomials.proofs.Times.{times-zero, times-linear, times-shift}
 use Rattle.vectors.specs.Places.{isPlace}
-use Rattle.choices.specs.Choices.{Pair, pair, choices}
+use Rattle.vectors.specs.Pairs.{Pair, pair}
+use Rattle.choices.specs.Choices.{choices}
 use Rattle.choices.specs.Signs.{signedSum, signs}
 use Rattle.choices.proofs.Pairs.{Sized}
-use Rattle.choices.proofs.Sums.{choices-sums, signed-linear, signed-length, sums-keep}
+use Rattle.choices.proofs.Sums.{choices-sums, addedIf-linear, addedIf-length, sums-keep}
 
 module _ (s : Pair) (key : Sized s) (l : List ℕ) (places : every isPlace l ≡ true) where
   -- the signed sum of x^i a is a times c'
@@ -27,8 +28,8 @@ module _ (s : Pair) (key : Sized s) (l : List ℕ) (places : every isPlace l ≡
       sums-keep a one (λ n x y. (length y ≡ dimension) × (x ≡ times a y))
       (λ b n i x y h r.
       let place = times-shift a la i one (omega arith) length-one ∙ ap (shift i) (times-one a la) in (
-        signed-length b i y one (r .0) length-one,
-        ap₂ (zipWith _) (r .1) (sym place) ∙ sym (times-linear a la y (shift i one) (r .0) (length-shift i one ∙ length-one) (signed-linear b)),
+        addedIf-length b i y one (r .0) length-one,
+        ap₂ (zipWith _) (r .1) (sym place) ∙ sym (times-linear a la y (shift i one) (r .0) (length-shift i one ∙ length-one) (addedIf-linear b)),
       )) s l places (length-replicate dimension (pos 0), sym (times-zero a la)) .1
 
   -- v = S c': v1 = s1 c' and v2 = s2 c'
@@ -41,6 +42,6 @@ module _ (s : Pair) (key : Sized s) (l : List ℕ) (places : every isPlace l ≡
       rw (choices-sums s l)
       (sums-keep (s .first) (s .second) (λ n x y. (length x ≡ dimension) × Carries a x y)
       (λ b n i x y h r. (
-        signed-length b i x (s .first) (r .0) (key .first),
-        carries-linear a la (r .0) (length-shift i (s .first) ∙ key .first) (r .1) (carries-shift a la i (omega arith) (key .first) c) (signed-linear b),
+        addedIf-length b i x (s .first) (r .0) (key .first),
+        carries-linear a la (r .0) (length-shift i (s .first) ∙ key .first) (r .1) (carries-shift a la i (omega arith) (key .first) c) (addedIf-linear b),
       )) s l places (length-replicate dimension (pos 0), carries-zero a la) .1)

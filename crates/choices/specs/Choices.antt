@@ -2,42 +2,27 @@
 -- (v1, v2) with (x^i s1, x^i s2); if it is zero or more, subtract that column from v, otherwise add it.
 use mathlib.Core.Bool.{Bool, true, false}
 use mathlib.Core.List.{List, [], _∷_}
-use Prim.Native.Nat.{ℕ, _+_}
+use Prim.Native.Nat.{ℕ}
 use lib.IntN.{ℤ, pos, _+ℤ_, _-ℤ_}
 use lib.ListN.{replicate}
 use lib.Signed.{ltZ}
 use Rattle.laws.specs.Lists.{zipWith}
 use Rattle.sets.specs.Numbers.{dimension}
 use Rattle.polynomials.specs.Product.{shift}
-use Rattle.vectors.specs.Vectors.{squares, inner}
-
--- a pair of vectors, as (v1, v2) and (s1, s2)
-pub record Pair : Type 0 where
-  pub first : List ℤ
-  pub second : List ℤ
-
-abbrev pub pair : List ℤ → List ℤ → Pair
-pair x y = record { first = x; second = y }
+use Rattle.vectors.specs.Pairs.{Pair, pair, innerPair}
 
 -- (x^i s1, x^i s2)
 abbrev pub column : ℕ → Pair → Pair
 column i s = pair (shift i (s .first)) (shift i (s .second))
 
--- the squared length and the inner product of pairs
-abbrev pub squaresPair : Pair → ℕ
-squaresPair v = squares (v .first) + squares (v .second)
-
-abbrev pub innerPair : Pair → Pair → ℤ
-innerPair v c = inner (v .first) (c .first) +ℤ inner (v .second) (c .second)
-
--- a sum, or a difference
-abbrev pub signed : Bool → ℤ → ℤ → ℤ
-signed true = _+ℤ_
-signed false = _-ℤ_
+-- added where yes, subtracted where no
+abbrev pub addedIf : Bool → ℤ → ℤ → ℤ
+addedIf true = _+ℤ_
+addedIf false = _-ℤ_
 
 -- c is added where its inner product with v is negative, and subtracted where it is zero or more
 abbrev pub choice : Pair → Pair → ℤ → ℤ → ℤ
-choice v c = signed (ltZ (innerPair v c) (pos 0))
+choice v c = addedIf (ltZ (innerPair v c) (pos 0))
 
 -- what v becomes with the column c
 unfoldable pub chosen : Pair → Pair → Pair

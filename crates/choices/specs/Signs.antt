@@ -4,7 +4,8 @@ use Prim.Native.Nat.{ℕ}
 use lib.IntN.{ℤ}
 use Rattle.laws.specs.Lists.{zipWith}
 use Rattle.polynomials.specs.Product.{one, shift}
-use Rattle.choices.specs.Choices.{Pair, pair, column, choice, chosen, zeros}
+use Rattle.vectors.specs.Pairs.{Pair, pair}
+use Rattle.choices.specs.Choices.{column, choice, chosen, zeros}
 
 -- from v on, over the places that are left: x^i t joins the sum with the sign that the column x^i s is given
 unfoldable pub sumFrom : Pair → List ℕ → Pair → List ℤ → List ℤ → List ℤ

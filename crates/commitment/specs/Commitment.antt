@@ -12,8 +12,8 @@ use Rattle.answers.specs.declared.Outcome.the-variants.{Done, UnknownSet, Wrong
 use Rattle.answers.specs.Outcomes.{forSet, Filled, filled}
 use Rattle.polynomials.specs.Product.{product}
 use Rattle.rounding.specs.Rounding.{upper, summed}
-use Rattle.vectors.specs.Vectors.{within}
-use Rattle.keys.specs.Key.{isResidue, sized}
+use Rattle.vectors.specs.Vectors.{sized, within}
+use Rattle.keys.specs.Key.{isResidue}
 
 -- a mask has coefficients -4,096 .. 4,096
 abbrev pub isMask : ℤ → Bool

@@ -81,7 +81,9 @@ fn round(s: Set, u: &[u32], out: &mut [u16])
     requires { ⌜ (length (now u) ≡ dimension) × (length (now out) ≡ dimension) × isReduced (now u) ⌝ }
     ensures { λ _. ⌜ now (out .exit) ≡ map (upper s) (now (u .entry)) ⌝ }
 {
+    let d = s.d();
+    let p = s.p();
     for i in 0..Set::DIMENSION {
-        out[i] = rounding::upper_digits(s, u[i]) as u16;
+        out[i] = rounding::upper_digits(s, d, p, u[i]) as u16;
     }
 }

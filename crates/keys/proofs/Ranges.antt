@@ -9,7 +9,8 @@ use lib.ListN.{length}
 use Rattle.laws.specs.Lists.{every}
 use Rattle.laws.proofs.Chain.{and-left, and-right}
 use Rattle.sets.specs.Numbers.{dimension}
-use Rattle.keys.specs.Key.{isSmall, isResidue, inRange, sized}
+use Rattle.vectors.specs.Vectors.{sized}
+use Rattle.keys.specs.Key.{isSmall, isResidue, inRange}
 
 pub sized-is : {A : Type 0} (x : List A) → sized x ≡ true → length x ≡ dimension
 sized-is x e = eqb-true (length x) dimension e

@@ -6,7 +6,7 @@ use Prim.Native.Nat.{ℕ, zero, suc, _+_, _*_, _<_, _≤_}
 use native.Mathlib.Omega.{arith}
 use borrow.Author.Tests.{leb-true, le-leb}
 use lib.IntN.{ℤ, pos, natAbs, _+ℤ_, _*ℤ_}
-use lib.ListN.{length, getD, set, length-map, List·getD-map}
+use lib.ListN.{length, getD, set as update, length-map, List·getD-map}
 use Rattle.laws.specs.Lists.{every}
 use Rattle.laws.proofs.Bounds.{abs-add, abs-mul}
 use Rattle.laws.proofs.Entries.{every-anywhere, every-of}
@@ -27,12 +27,12 @@ pub getD-doubled : (g : List ℤ) (k : ℕ) → getD (doubled g) k (pos 0) ≡ d
 unfolding doubled
 getD-doubled g k = List·getD-map double g k (pos 0)
 
-plus-set : (l : List ℤ) → 0 < length l → set l 0 (getD l 0 (pos 0) +ℤ pos 1) ≡ plusOne l
+plus-set : (l : List ℤ) → 0 < length l → update l 0 (getD l 0 (pos 0) +ℤ pos 1) ≡ plusOne l
 plus-set [] h = absurd (native.Mathlib.Nat.not-suc-le-zero h)
 plus-set (x ∷ l) h = refl
 
 -- the doubled vector with 1 more at place 0
-pub second-is : (g : List ℤ) → 0 < length g → set (doubled g) 0 (getD (doubled g) 0 (pos 0) +ℤ pos 1) ≡ second g
+pub second-is : (g : List ℤ) → 0 < length g → update (doubled g) 0 (getD (doubled g) 0 (pos 0) +ℤ pos 1) ≡ second g
 unfolding doubled second
 second-is g h = plus-set (map double g) (omega (arith, length-map g double))
 

@@ -1,20 +1,20 @@
 -- The key and its test (01, "Key" and "Numbers that come back").
 use mathlib.Core.Bool.{Bool, _&&_}
 use mathlib.Core.List.{List, [], _∷_, map}
-use Prim.Native.Nat.{ℕ, _+_}
-use lib.Dec.{eqb, leb, ltb}
+use Prim.Native.Nat.{ℕ}
+use lib.Dec.{leb, ltb}
 use lib.IntN.{ℤ, pos, _+ℤ_, _*ℤ_}
-use lib.ListN.{length}
 use Rattle.laws.specs.Integers.{residue}
 use Rattle.laws.specs.Lists.{every, same}
 use Rattle.laws.specs.Refusals.{must}
 use Rattle.sets.specs.declared.Set.{Set}
-use Rattle.sets.specs.Numbers.{dimension, modulus, keyLimitOf, askedOf}
+use Rattle.sets.specs.Numbers.{modulus, keyLimitOf, askedOf}
 use Rattle.answers.specs.declared.Outcome.{Outcome}
 use Rattle.answers.specs.declared.Outcome.the-variants.{Done, UnknownSet, WrongLength, CoefficientOutside, RelationBroken, KeyTooLong}
 use Rattle.answers.specs.Outcomes.{forSet}
 use Rattle.polynomials.specs.Product.{product}
-use Rattle.vectors.specs.Vectors.{within, squares}
+use Rattle.vectors.specs.Vectors.{sized, within}
+use Rattle.vectors.specs.Pairs.{pair, squaresPair}
 
 -- f and g have coefficients -2 .. 2
 abbrev pub isSmall : ℤ → Bool
@@ -35,23 +35,16 @@ plusOne (x ∷ xs) = (x +ℤ pos 1) ∷ xs
 unfoldable pub second : List ℤ → List ℤ
 second g = plusOne (map (λ x. pos 2 *ℤ x) g)
 
--- the squared length: the sum of the squares of s1 and s2
-abbrev pub keyLength : List ℤ → List ℤ → ℕ
-keyLength s1 s2 = squares s1 + squares s2
-
 -- a times s1 = s2 modulo q
 abbrev pub relation : List ℕ → List ℤ → List ℤ → Bool
 relation a s1 s2 = same (product a s1) (map (residue modulus) s2)
 
--- the squared length is at most K, and the relation holds
+-- the squared length, the sum of the squares of s1 and s2, is at most K, and the relation holds
 unfoldable pub properKey : Set → List ℕ → List ℤ → List ℤ → Outcome
 properKey s a s1 s2 =
-    must (leb (keyLength s1 s2) (keyLimitOf s)) KeyTooLong
+    must (leb (squaresPair (pair s1 s2)) (keyLimitOf s)) KeyTooLong
     (must (relation a s1 s2) RelationBroken
     Done)
-
-abbrev pub sized : {A : Type 0} → List A → Bool
-sized x = eqb (length x) dimension
 
 -- the key test for a set: 2, 3, 7, 6
 abbrev pub keyTestOf : Set → List ℤ → List ℤ → List ℕ → Outcome

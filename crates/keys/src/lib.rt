@@ -96,17 +96,18 @@ pub fn proper_key(s: Set, a: &[u16], spectrum: &[u16], s1: &[i16], s2: &[i16]) -
     Outcome::Done
 }
 
-// Whether t is s modulo q, place by place.
+// Whether t is s modulo q, place by place. Not left early, as a range test is not.
 fn are_residues(t: &[u16], s: &[i16]) -> bool
     requires { ⌜ (length (now t) ≡ dimension) × (length (now s) ≡ dimension) × (every (within 5) (now s) ≡ true) ⌝ }
     ensures { λ r. ⌜ r ≡ same (now (t .entry)) (map (residueOf modulus) (now (s .entry))) ⌝ }
 {
+    let mut all = true;
     for i in 0..Set::DIMENSION {
         if t[i] != residue(s[i]) {
-            return false;
+            all = false;
         }
     }
-    true
+    all
 }
 
 // x modulo q.

@@ -65,23 +65,6 @@ le-square (suc n) = omega (arith, mul-le-mul (one-le n) (same n))
     same : (n : ℕ) → suc n ≤ suc n
     same n = omega arith
 
--- a product is at most the two squares
-pub product-le-squares : (a b : ℕ) → a * b ≤ a * a + b * b
-product-le-squares a b = pick (decLe a b)
-  where
-    pick : Dec (a ≤ b) → a * b ≤ a * a + b * b
-    pick (yes h) = omega (arith, mul-le-mul h (same b))
-      where
-        same : (n : ℕ) → n ≤ n
-        same n = omega arith
-    pick (no h) = omega (arith, mul-le-mul (same a) (over h))
-      where
-        same : (n : ℕ) → n ≤ n
-        same n = omega arith
-
-        over : (a ≤ b → ⊥) → b ≤ a
-        over h = omega arith
-
 -- a root is at most a bound whose square the square is below
 pub root-le : (n bound : ℕ) → n * n ≤ bound * bound → n ≤ bound
 root-le n bound h = pick (decLe n bound)

@@ -1,6 +1,7 @@
--- What the proofs of every layer cite. Whole numbers: `Products`, `Solver`, `Bounds`, `Linear`, `Congruence`, `Machine`;
+-- What the proofs of every layer cite. Whole numbers: `Products`, `Sums`, `Solver`, `Bounds`, `Linear`, `Congruence`, `Machine`;
 -- vectors: `Entries`, `Pointwise`, `Loops`; refusals in their order: `Chain`.
 pub mod Products
+pub mod Sums
 pub mod Solver
 pub mod Bounds
 pub mod Linear

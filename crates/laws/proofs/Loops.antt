@@ -1,7 +1,7 @@
 -- What a loop over a vector has done once it has passed i entries: it rewrites them (`Rewritten`), scans them, or
 -- compares them with another's. Assumes nothing.
 use mathlib.Core.Path.{_≡_, refl, sym, ap, ap₂, _∙_}
-use mathlib.Core.Bool.{Bool, true, false}
+use mathlib.Core.Bool.{Bool, true, false, _&&_, and-true, and-false}
 use mathlib.Core.List.{List, [], _∷_, _++_, append-nil}
 use Prim.Native.Nat.{ℕ, zero, suc, _+_, _<_, _≤_}
 use native.Mathlib.Nat.{not-suc-le-zero, le-of-suc-le-suc, suc-inj, suc-ne-zero}
@@ -9,7 +9,7 @@ use native.Mathlib.Numerals.{add-one}
 use native.Mathlib.Omega.{arith}
 use borrow.Author.Tests.{eq-eqb, ne-eqb, eqb-true}
 use lib.Dec.{eqb}
-use lib.ListN.{length, take, drop, getD, set, length-set, drop-of-length-le}
+use lib.ListN.{length, take, drop, getD, set as update, length-set, drop-of-length-le}
 use lib.Seq.{take-all, drop-cons}
 use Rattle.laws.specs.Lists.{every, same}
 use Rattle.laws.proofs.Chain.{differ, and-left, and-right}
@@ -25,7 +25,7 @@ module _ {A : Type 0} where
   kept-at (x ∷ l) [] (suc i) d h e = absurd (suc-ne-zero (length l) (sym e))
   kept-at (x ∷ l) (y ∷ w) (suc i) d h e = kept-at l w i d (le-of-suc-le-suc h) (suc-inj e)
 
-  set-at : (l w : List A) (i : ℕ) (d : A) → i < length l → length w ≡ length l → set (swept l w i) i (getD w i d) ≡ swept l w (suc i)
+  set-at : (l w : List A) (i : ℕ) (d : A) → i < length l → length w ≡ length l → update (swept l w i) i (getD w i d) ≡ swept l w (suc i)
   set-at [] w i d h e = absurd (not-suc-le-zero h)
   set-at (x ∷ l) [] i d h e = absurd (suc-ne-zero (length l) (sym e))
   set-at (x ∷ l) (y ∷ w) zero d h e = refl
@@ -44,11 +44,11 @@ module _ {A : Type 0} where
       pub next-is : (d : A) → i < length l → getD now i d ≡ getD l i d
       next-is d h = ap (λ (r : List A). getD r i d) (so .is) ∙ kept-at l w i d h same
 
-      pub more : (d x : A) → i < length l → x ≡ getD w i d → Rewritten l w (i + 1) (set now i x)
+      pub more : (d x : A) → i < length l → x ≡ getD w i d → Rewritten l w (i + 1) (update now i x)
       more d x h e =
           record {
             long = length-set now i x ∙ so .long;
-            is = rw add-one (ap (λ (y : A). set now i y) e ∙ ap (λ (r : List A). set r i (getD w i d)) (so .is) ∙ set-at l w i d h same);
+            is = rw add-one (ap (λ (y : A). update now i y) e ∙ ap (λ (r : List A). update r i (getD w i d)) (so .is) ∙ set-at l w i d h same);
           }
 
       pub finish : length l ≤ i → now ≡ w
@@ -56,39 +56,42 @@ module _ {A : Type 0} where
           let k : length w ≤ i = omega arith in
           so .is ∙ ap (λ (r : List A). take i w ++ r) (drop-of-length-le l h) ∙ append-nil (take i w) ∙ take-all i w k
 
--- ---- scanning: a test of the whole is the test of what is left
-module _ {A : Type 0} (test : A → Bool) (d : A) (xs : List A) (i : ℕ) (so : every test xs ≡ every test (drop i xs)) where
-  pub scan-stops : i < length xs → test (getD xs i d) ≡ false → false ≡ every test xs
+-- ---- scanning: a test of the whole holds where a flag, which tells of what is passed, holds and the test of what is left. A loop that leaves at the first
+-- failure has `true` for its flag.
+module _ {A : Type 0} (test : A → Bool) (d : A) (xs : List A) (i : ℕ) (all : Bool) (so : every test xs ≡ all && every test (drop i xs)) where
+  module _ {now : Bool} (h : i < length xs) where
+    pub scan-fails : test (getD xs i d) ≡ false → now ≡ false → every test xs ≡ now && every test (drop (i + 1) xs)
+    unfolding every
+    scan-fails e k = so ∙ rw (drop-cons xs i d, e, k) (and-false all)
+
+    pub scan-passes : test (getD xs i d) ≡ true → now ≡ all → every test xs ≡ now && every test (drop (i + 1) xs)
+    unfolding every
+    scan-passes e k = so ∙ rw (add-one, drop-cons xs i d, e, k)
+
+  pub scan-ends : length xs ≤ i → all ≡ every test xs
   unfolding every
-  scan-stops h e = sym (so ∙ rw (drop-cons xs i d, e))
+  scan-ends h = sym (so ∙ rw (drop-of-length-le xs h) (and-true all))
 
-  pub scan-passes : i < length xs → test (getD xs i d) ≡ true → every test xs ≡ every test (drop (i + 1) xs)
-  unfolding every
-  scan-passes h e = so ∙ rw (add-one, drop-cons xs i d, e)
+-- ---- comparing: two vectors are the same where the flag holds and what is left of them is the same
+module _ (xs ys : List ℕ) (long : length xs ≡ length ys) (i : ℕ) (all : Bool) (so : same xs ys ≡ all && same (drop i xs) (drop i ys)) where
+  module _ {now : Bool} (h : i < length xs) where
+    pub same-fails : (getD xs i 0 ≡ getD ys i 0 → ⊥) → now ≡ false → same xs ys ≡ now && same (drop (i + 1) xs) (drop (i + 1) ys)
+    unfolding same
+    same-fails n k =
+        let j : i < length ys = omega arith in
+        so ∙ rw (drop-cons xs i 0, drop-cons ys i 0, ne-eqb _ _ n, k) (and-false all)
 
-  pub scan-ends : length xs ≤ i → true ≡ every test xs
-  unfolding every
-  scan-ends h = sym (so ∙ rw (drop-of-length-le xs h))
+    pub same-passes : getD xs i 0 ≡ getD ys i 0 → now ≡ all → same xs ys ≡ now && same (drop (i + 1) xs) (drop (i + 1) ys)
+    unfolding same
+    same-passes e k =
+        let j : i < length ys = omega arith in
+        so ∙ rw (add-one, drop-cons xs i 0, drop-cons ys i 0, eq-eqb _ _ e, k)
 
--- ---- comparing: two vectors are the same where what is left of them is
-module _ (xs ys : List ℕ) (long : length xs ≡ length ys) (i : ℕ) (so : same xs ys ≡ same (drop i xs) (drop i ys)) where
-  pub same-stops : i < length xs → (getD xs i 0 ≡ getD ys i 0 → ⊥) → false ≡ same xs ys
-  unfolding same
-  same-stops h n =
-      let k : i < length ys = omega arith in
-      sym (so ∙ rw (drop-cons xs i 0, drop-cons ys i 0, ne-eqb _ _ n))
-
-  pub same-passes : i < length xs → getD xs i 0 ≡ getD ys i 0 → same xs ys ≡ same (drop (i + 1) xs) (drop (i + 1) ys)
-  unfolding same
-  same-passes h e =
-      let k : i < length ys = omega arith in
-      so ∙ rw (add-one, drop-cons xs i 0, drop-cons ys i 0, eq-eqb _ _ e)
-
-  pub same-ends : length xs ≤ i → true ≡ same xs ys
+  pub same-ends : length xs ≤ i → all ≡ same xs ys
   unfolding same
   same-ends h =
       let k : length ys ≤ i = omega arith in
-      sym (so ∙ rw (drop-of-length-le xs h, drop-of-length-le ys k))
+      sym (so ∙ rw (drop-of-length-le xs h, drop-of-length-le ys k) (and-true all))
 
 -- what the test says
 pub same-is : (xs ys : List ℕ) → same xs ys ≡ true → xs ≡ ys

@@ -23,11 +23,11 @@ fn wide_rule(s: Set, z1: &[i16], z2: &[i16]) -> Outcome
     requires { ⌜ (length (now z1) ≡ dimension) × (length (now z2) ≡ dimension) ⌝ }
     ensures { λ r. ⌜ r ≡ lengthRule s (now (z1 .entry)) (now (z2 .entry)) ⌝ }
 {
-    let first = first_beyond(z1, s.largest(), 1, 0);
+    let first = test_entries(z1, s.largest(), 1, 0);
     if !first.is_done() {
         return first;
     }
-    let second = first_beyond(z2, s.largest(), s.step(), Set::DIMENSION as u32);
+    let second = test_entries(z2, s.largest(), s.step(), Set::DIMENSION as u32);
     if !second.is_done() {
         return second;
     }
@@ -35,6 +35,17 @@ fn wide_rule(s: Set, z1: &[i16], z2: &[i16]) -> Outcome
         return Outcome::SumAbove;
     }
     Outcome::Done
+}
+
+// The limit on every entry's size times the factor. A range test is quicker than the search for a place, which is left for where there is one.
+fn test_entries(x: &[i16], limit: u32, factor: u32, start: u32) -> Outcome
+    requires { ⌜ (length (now x) ≡ dimension) × (1 ≤ factor) × (factor ≤ 2 ^ 10) × (start ≤ dimension) ⌝ }
+    ensures { λ r. ⌜ r ≡ entries limit factor start (now (x .entry)) Done ⌝ }
+{
+    if vectors::all_within(x, limit / factor) {
+        return Outcome::Done;
+    }
+    first_beyond(x, limit, factor, start)
 }
 
 // The first entry whose size times the factor is above the limit, if there is one. Its place is counted from `start`.

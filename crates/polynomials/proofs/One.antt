@@ -1,18 +1,18 @@
 -- The polynomial 1, and x^i = x^i times 1. Assumes nothing.
-use mathlib.Core.Path.{_≡_, refl, sym, ap, ap₂, _∙_}
+use mathlib.Core.Path.{_≡_, refl, ap, ap₂, _∙_}
 use mathlib.Core.List.{List, [], _∷_, _++_, append-nil}
 use Prim.Native.Nat.{ℕ, zero, suc, _+_, _-_, _<_}
 use native.Mathlib.Omega.{arith}
 use native.Mathlib.Nat.{not-suc-le-zero}
 use native.Mathlib.Decide.{decLt}
 use lib.IntN.{ℤ, pos, negℤ}
-use lib.ListN.{length, take, getD, replicate, length-append, length-replicate, getD-replicate}
-use lib.Seq.{getD-append-add, take-append-add}
+use lib.ListN.{length, getD, replicate, length-append, length-replicate, getD-replicate}
 use Rattle.laws.specs.Lists.{zipWith}
 use Rattle.laws.proofs.Solver.{v, k, _⊕_, _⊗_, ring}
 use Rattle.polynomials.specs.Product.{times, shift, one}
+use Rattle.polynomials.specs.Field.{byRows}
 use Rattle.polynomials.proofs.Operations.{row}
-use Rattle.polynomials.proofs.Rows.{turn, byRows, times-rows}
+use Rattle.polynomials.proofs.Rows.{turnℤ, rowsℤ, turn-padded, times-rows}
 use Rattle.polynomials.proofs.Shift.{shift-low, shift-high}
 
 -- 1 has 512 coefficients
@@ -43,20 +43,6 @@ power-elsewhere i n h j other = pick (decLt n i)
 
 -- ---- a times 1 is a
 
--- zeros but the last
-zeros-front : (n : ℕ) → take n (replicate (suc n) (pos 0)) ≡ replicate n (pos 0)
-zeros-front zero = refl
-zeros-front (suc n) = ap (λ (l : List ℤ). pos 0 ∷ l) (zeros-front n)
-
--- x times a vector that ends in 0
-turn-padded : (f : List ℤ) (n : ℕ) → length f + n ≡ 511 → turn (f ++ replicate (suc n) (pos 0)) ≡ pos 0 ∷ (f ++ replicate n (pos 0))
-unfolding turn
-turn-padded f n e =
-    let h = f ++ replicate (suc n) (pos 0) in
-    ap₂ _∷_
-    (ap negℤ (ap (λ (m : ℕ). getD h m (pos 0)) (sym e) ∙ getD-append-add f (replicate (suc n) (pos 0)) n (pos 0) ∙ getD-replicate (suc n) n (pos 0) (pos 0) (omega arith)))
-    (ap (λ (m : ℕ). take m h) (sym e) ∙ take-append-add f (replicate (suc n) (pos 0)) n ∙ ap (λ (l : List ℤ). f ++ l) (zeros-front n))
-
 -- a row of zeros adds nothing
 row-zeros : (a : ℤ) (g : List ℤ) (n : ℕ) → length g ≡ n → zipWith (row a) (replicate n (pos 0)) g ≡ g
 unfolding zipWith
@@ -71,14 +57,14 @@ unfolding one zipWith
 row-one a g e = ap₂ _∷_ (ring (a ∷ []) (v 0 ⊗ k (pos 1) ⊕ k (pos 0)) (v 0) refl) (row-zeros a g 511 e)
 
 -- row by row
-rows-one : (f : List ℤ) (n : ℕ) → length f + n ≡ 512 → byRows f one ≡ f ++ replicate n (pos 0)
+rows-one : (f : List ℤ) (n : ℕ) → length f + n ≡ 512 → rowsℤ f one ≡ f ++ replicate n (pos 0)
 unfolding byRows
 rows-one [] n e =
-    let all : 512 ≡ n = omega arith in
+    let all : length one ≡ n = omega (arith, length-one) in
     ap (λ (m : ℕ). replicate m (pos 0)) all
 rows-one (a ∷ f) n e =
-    ap (λ (h : List ℤ). zipWith (row a) one (turn h)) (rows-one f (suc n) (omega arith))
-    ∙ ap (zipWith (row a) one) (turn-padded f n (omega arith))
+    ap (λ (h : List ℤ). zipWith (row a) one (turnℤ h)) (rows-one f (suc n) (omega arith))
+    ∙ ap (zipWith (row a) one) (turn-padded f n)
     ∙ row-one a (f ++ replicate n (pos 0)) (simp (length-append, length-replicate) (omega arith))
 
 -- a times 1 is a

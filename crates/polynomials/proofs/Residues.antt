@@ -12,9 +12,9 @@ use Rattle.laws.proofs.Congruence.{Cong, residue-lt, residue-cong, residue-same
 use Rattle.laws.proofs.Pointwise.{map-take, map-drop, map-zipWith}
 use Rattle.sets.specs.Numbers.{modulus}
 use Rattle.polynomials.specs.Product.{times, product, shift}
-use Rattle.polynomials.specs.Field.{add, mul, turnMod, fieldProduct}
+use Rattle.polynomials.specs.Field.{add, mul, mix, productModulo}
 use Rattle.polynomials.proofs.Operations.{Linear, row, linear-cong}
-use Rattle.polynomials.proofs.Rows.{turn, byRows, times-rows}
+use Rattle.polynomials.proofs.Rows.{rowsℤ, map-byRows, times-rows}
 use Rattle.polynomials.proofs.Times.{length-times}
 
 -- the residues of a vector
@@ -35,19 +35,10 @@ residue-row : (a y z : ℤ) → residue modulus (row a y z) ≡ add (mul (residu
 unfolding add mul
 residue-row a y z = residue-add positive (a *ℤ y) z ∙ ap (λ r. add r (residue modulus z)) (residue-mul positive a y)
 
--- residues of x times h
-residues-turn : (h : List ℤ) → residues (turn h) ≡ turnMod (residues h)
-unfolding turn turnMod residue
-residues-turn h =
-    ap₂ _∷_ (residue-neg (getD h 511 (pos 0)) ∙ ap (mul 12288) (sym (List·getD-map (residue modulus) h 511 (pos 0)))) (map-take (residue modulus) 511 h)
-
 -- residues of a product by rows
-residues-rows : (f g : List ℤ) → residues (byRows f g) ≡ fieldProduct (residues f) (residues g)
-unfolding byRows fieldProduct residue
-residues-rows [] g = refl
-residues-rows (a ∷ f) g =
-    map-zipWith (row a) (λ y z. add (mul (residue modulus a) y) z) (residue modulus) (residue modulus) (residue modulus) (residue-row a) g (turn (byRows f g))
-    ∙ ap (zipWith (λ y z. add (mul (residue modulus a) y) z) (residues g)) (residues-turn (byRows f g) ∙ ap turnMod (residues-rows f g))
+residues-rows : (f g : List ℤ) → residues (rowsℤ f g) ≡ productModulo (modulus - 1) (residues f) (residues g)
+unfolding residue
+residues-rows = map-byRows (residue modulus) negℤ (mul 12288) (pos 0) residue-neg row mix residue-row
 
 -- ---- the product
 
@@ -71,18 +62,18 @@ times-cong-product a z k = rw product-at (residue-cong positive (getD (times (ma
 
 -- the product of a public key and a signed vector is the product of their residues
 pub product-residues : (a : List ℕ) (z : List ℤ) → length a ≡ 512 → length z ≡ 512
-    → product a z ≡ fieldProduct (map (λ x. x % modulus) a) (map (residue modulus) z)
+    → product a z ≡ productModulo (modulus - 1) (map (λ x. x % modulus) a) (map (residue modulus) z)
 unfolding product residue
 product-residues a z la lz =
     ap residues (times-rows (map pos a) z (length-map a pos ∙ la) lz)
     ∙ residues-rows (map pos a) z
-    ∙ ap (λ (l : List ℕ). fieldProduct l (residues z)) (map-map (residue modulus) pos a)
+    ∙ ap (λ (l : List ℕ). productModulo (modulus - 1) l (residues z)) (map-map (residue modulus) pos a)
 
 -- it depends on the residues of the signed vector alone
 pub product-cong : (a : List ℕ) (y z : List ℤ) → length a ≡ 512 → length y ≡ 512 → length z ≡ 512
     → residues y ≡ residues z → product a y ≡ product a z
 product-cong a y z la ly lz e =
-    product-residues a y la ly ∙ ap (fieldProduct (map (λ x. x % modulus) a)) e ∙ sym (product-residues a z la lz)
+    product-residues a y la ly ∙ ap (productModulo (modulus - 1) (map (λ x. x % modulus) a)) e ∙ sym (product-residues a z la lz)
 
 -- ---- residues of shifts, sums and differences depend on residues alone
 

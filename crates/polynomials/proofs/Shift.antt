@@ -1,18 +1,18 @@
 -- x^i times a vector of 512 entries: its entries, as a part of the doubled vector, as x over and over. Assumes nothing.
 use mathlib.Core.Path.{_≡_, sym, ap, ap₂, _∙_}
-use mathlib.Core.List.{List, [], _∷_, _++_, map, append-assoc}
+use mathlib.Core.List.{List, _++_, map}
 use Prim.Native.Nat.{ℕ, suc, _+_, _-_, _<_, _≤_}
 use native.Mathlib.Decide.{decLt}
 use native.Mathlib.Omega.{arith}
 use lib.IntN.{ℤ, pos, negℤ, _+ℤ_, _-ℤ_}
 use lib.ListN.{length, take, drop, getD, length-map, length-append, length-take, length-drop, drop-of-length-le, List·getD-append, List·getD-map, List·getD-eq-default}
-use lib.Seq.{take-all, take-suc, take-at, getD-at, getD-take, getD-drop, drop-cons, getD-append-add, take-append-add, drop-append-le}
+use lib.Seq.{take-all, getD-take, getD-drop, getD-append-add, take-append-add, drop-append-le}
 use Rattle.laws.specs.Lists.{zipWith}
 use Rattle.laws.proofs.Entries.{zipWith-append}
 use Rattle.laws.proofs.Pointwise.{map-drop, map-zipWith, take-zipWith, drop-zipWith}
 use Rattle.polynomials.specs.Product.{shift}
 use Rattle.polynomials.proofs.Operations.{Linear, plus, minus, linear-neg}
-use Rattle.polynomials.proofs.Rows.{turn}
+use Rattle.polynomials.proofs.Rows.{turnℤ, turned-more}
 
 -- the length of the part whose signs are turned
 length-turned : (n : ℕ) (s : List ℤ) → length (map negℤ (drop n s)) ≡ length s - n
@@ -93,23 +93,9 @@ pub shift-zero : (s : List ℤ) → length s ≡ 512 → shift 0 s ≡ s
 unfolding shift
 shift-zero s e = ap₂ _++_ (ap (map negℤ) (drop-of-length-le s {i = 512} (omega arith))) (take-all 512 s (omega arith))
 
--- x times a vector that ends in l
-turn-snoc : (p : List ℤ) (l : ℤ) → length p ≡ 511 → turn (p ++ (l ∷ [])) ≡ negℤ l ∷ p
-unfolding turn
-turn-snoc p l e = ap₂ _∷_ (ap negℤ (getD-at p l [] (pos 0) 511 e)) (take-at p (l ∷ []) 511 e)
-
--- one entry more goes to the front
-turn-more : (n : ℕ) (s : List ℤ) → n < 512 → length s ≡ 512 → map negℤ (drop n s) ++ take n s ≡ turn (map negℤ (drop (suc n) s) ++ take (suc n) s)
-turn-more n s h e =
-    let x = getD s n (pos 0) in
-    let front = map negℤ (drop (suc n) s) in
-    ap (λ (l : List ℤ). map negℤ l ++ take n s) (drop-cons s n (pos 0) (omega arith))
-    ∙ sym (ap turn (ap (λ (l : List ℤ). front ++ l) (take-suc s n (pos 0) (omega arith)) ∙ sym (append-assoc front (take n s) (x ∷ [])))
-    ∙ turn-snoc (front ++ take n s) x (simp (length-append, length-turned, length-take) (omega arith)))
-
 -- x^(i + 1) is x times x^i
-pub shift-suc : (i : ℕ) (s : List ℤ) → i < 512 → length s ≡ 512 → shift (suc i) s ≡ turn (shift i s)
+pub shift-suc : (i : ℕ) (s : List ℤ) → i < 512 → length s ≡ 512 → shift (suc i) s ≡ turnℤ (shift i s)
 unfolding shift
 shift-suc i s h e =
     let less : 512 - i ≡ suc (512 - suc i) = omega arith in
-    rw less (turn-more (512 - suc i) s (omega arith) e)
+    rw less (turned-more negℤ (pos 0) (512 - suc i) s (omega arith))

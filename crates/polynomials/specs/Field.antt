@@ -1,9 +1,20 @@
--- The same product over residues modulo q, made row by row: the form that the transform is proved against.
+-- Products made row by row, and the product over residues modulo q that is made so: the form that the transform is proved against.
 use mathlib.Core.List.{List, [], _∷_}
 use Prim.Native.Nat.{ℕ, _+_, _*_, _-_, _%_}
-use lib.ListN.{getD, take, replicate}
+use lib.ListN.{length, getD, take, replicate}
 use Rattle.laws.specs.Lists.{zipWith}
-use Rattle.sets.specs.Numbers.{dimension, modulus}
+use Rattle.sets.specs.Numbers.{modulus}
+
+-- x times h, where h has n coefficients: what stands before x^n returns at the bottom, as `back` turns it
+unfoldable pub turned : {A : Type 0} → (A → A) → A → List A → List A
+turned back none h = back (getD h (length h - 1) none) ∷ take (length h - 1) h
+
+-- f times g, a row for each coefficient of f: `row a y z` is a y + z
+unfoldable pub byRows : {A : Type 0} → (A → A → A → A) → (A → A) → A → List A → List A → List A
+byRows row back none [] g = replicate (length g) none
+byRows row back none (a ∷ f) g = zipWith (row a) g (turned back none (byRows row back none f g))
+
+-- ---- over residues
 
 -- x + y modulo q
 unfoldable pub add : ℕ → ℕ → ℕ
@@ -13,11 +24,14 @@ add x y = (x + y) % modulus
 unfoldable pub mul : ℕ → ℕ → ℕ
 mul x y = x * y % modulus
 
--- x times h: the last coefficient returns at the bottom with its sign turned; q - 1 is -1
-unfoldable pub turnMod : List ℕ → List ℕ
-turnMod h = mul (modulus - 1) (getD h (dimension - 1) 0) ∷ take (dimension - 1) h
+-- one term more of a product
+abbrev pub mix : ℕ → ℕ → ℕ → ℕ
+mix a y z = add (mul a y) z
 
--- f times g, a row for each coefficient of f
-unfoldable pub fieldProduct : List ℕ → List ℕ → List ℕ
-fieldProduct [] g = replicate dimension 0
-fieldProduct (a ∷ f) g = zipWith (λ y z. add (mul a y) z) g (turnMod (fieldProduct f g))
+-- x times h, modulo x^n - w, where h has n coefficients
+abbrev pub turn : ℕ → List ℕ → List ℕ
+turn w h = turned (mul w) 0 h
+
+-- f times g, modulo x^n - w, where g has n coefficients; q - 1 is -1
+abbrev pub productModulo : ℕ → List ℕ → List ℕ → List ℕ
+productModulo w f g = byRows mix (mul w) 0 f g

@@ -8,6 +8,7 @@ use denote.Ref.{now}
 use lib.IntN.{ℤ}
 use Rattle.answers.specs.declared.Outcome.{Outcome}
 use Rattle.answers.specs.Outcomes.{Filled, filled}
+use Rattle.answers.proofs.Slots.{commitment-out, response-z1, response-z2, rebuild-out}
 use Rattle.signing.specs.Response.{Responded, responded}
 use Rattle.keys.proofs.key_test.Reads as keyTest
 use Rattle.commitment.proofs.commitment.Reads as commitment
@@ -28,17 +29,17 @@ pub key-test-determined : (κs : Lfts 3) (a : _) (r r′ : _) (s s′ : _) → k
 key-test-determined κs a r r′ s s′ p q = p ∙ sym q
 
 pub commitment-determined : (κs : Lfts 4) (a : _) (r r′ : _) (s s′ : _) → commitment.Post κs a r s → commitment.Post κs a r′ s′
-    → (r ≡ r′) × (now (s .1 .1 .1 .1 .0) ≡ now (s′ .1 .1 .1 .1 .0))
+    → (r ≡ r′) × (now (commitment-out s) ≡ now (commitment-out s′))
 commitment-determined κs a r r′ s s′ p q = filled-parts _ p q
 
 pub response-determined : (κs : Lfts 10) (a : _) (r r′ : _) (s s′ : _) → respond.Post κs a r s → respond.Post κs a r′ s′
     → (r .outcome ≡ r′ .outcome) × (r .words ≡ r′ .words)
-    × (now (s .1 .1 .1 .1 .1 .1 .1 .1 .1 .1 .0) ≡ now (s′ .1 .1 .1 .1 .1 .1 .1 .1 .1 .1 .0))
-    × (now (s .1 .1 .1 .1 .1 .1 .1 .1 .1 .1 .1 .0) ≡ now (s′ .1 .1 .1 .1 .1 .1 .1 .1 .1 .1 .1 .0))
+    × (now (response-z1 s) ≡ now (response-z1 s′))
+    × (now (response-z2 s) ≡ now (response-z2 s′))
 response-determined κs a r r′ s s′ p q = responded-parts _ p q
 
 pub rebuild-determined : (κs : Lfts 5) (a : _) (r r′ : _) (s s′ : _) → rebuild.Post κs a r s → rebuild.Post κs a r′ s′
-    → (r ≡ r′) × (now (s .1 .1 .1 .1 .1 .0) ≡ now (s′ .1 .1 .1 .1 .1 .0))
+    → (r ≡ r′) × (now (rebuild-out s) ≡ now (rebuild-out s′))
 rebuild-determined κs a r r′ s s′ p q = filled-parts _ p q
 
 pub comparison-determined : (κs : Lfts 2) (a : _) (r r′ : _) (s s′ : _) → comparison.Post κs a r s → comparison.Post κs a r′ s′ → r ≡ r′

@@ -12,7 +12,8 @@ use Rattle.laws.proofs.Entries.{zipWith-append}
 use Rattle.laws.proofs.Solver.{v, k, _⊕_, _⊖_, _⊗_, ring}
 use Rattle.sets.specs.Numbers.{dimension}
 use Rattle.vectors.specs.Vectors.{inner}
-use Rattle.choices.specs.Choices.{Pair, pair, column, innerPair, signed, choice, chosen, chooseFrom, choices, zeros}
+use Rattle.vectors.specs.Pairs.{Pair, pair, innerPair}
+use Rattle.choices.specs.Choices.{column, addedIf, choice, chosen, chooseFrom, choices, zeros}
 use Rattle.choices.proofs.Bound.{Short, short-zeros, short-chosen, sized-column}
 use Rattle.choices.proofs.Pairs.{Sized}
 use Rattle.promises.specs.Published.{scaled, sgn, greedyFrom, columns, SignChoices}
@@ -28,7 +29,7 @@ inner-append (a ∷ x) x′ (b ∷ y) y′ e =
     ∙ ring ((a *ℤ b) ∷ inner x y ∷ inner x′ y′ ∷ []) (v 0 ⊕ (v 1 ⊕ v 2)) (v 0 ⊕ v 1 ⊕ v 2) refl
 
 -- v ← v - ς s, at one place
-step-is : (b : Bool) (x y : ℤ) → signed b x y ≡ x -ℤ cond b (negsuc 0) (pos 1) *ℤ y
+step-is : (b : Bool) (x y : ℤ) → addedIf b x y ≡ x -ℤ cond b (negsuc 0) (pos 1) *ℤ y
 step-is true x y = ring (x ∷ y ∷ []) (v 0 ⊕ v 1) (v 0 ⊖ k (negsuc 0) ⊗ v 1) refl
 step-is false x y = ring (x ∷ y ∷ []) (v 0 ⊖ v 1) (v 0 ⊖ k (pos 1) ⊗ v 1) refl
 

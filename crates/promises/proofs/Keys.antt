@@ -15,27 +15,30 @@ use Rattle.sets.specs.declared.Set.{Set}
 use Rattle.sets.specs.declared.Asked.the-variants.{Known}
 use Rattle.sets.specs.Numbers.{dimension, keyLimitOf, askedOf}
 use Rattle.answers.specs.declared.Outcome.the-variants.{Done, UnknownSet, WrongLength, CoefficientOutside, RelationBroken, KeyTooLong}
-use Rattle.answers.specs.Outcomes.{isDone, forSet}
+use Rattle.answers.specs.Outcomes.{numberOf, isDone, forSet}
+use Rattle.answers.proofs.Calls.{zero-is}
 use Rattle.polynomials.specs.Product.{product, one}
 use Rattle.polynomials.proofs.Carries.{Carries}
 use Rattle.polynomials.proofs.Residues.{residues}
-use Rattle.keys.specs.Key.{inRange, second, keyLength, relation, properKey, keyTestOf, keyTest, sized}
+use Rattle.vectors.specs.Vectors.{sized}
+use Rattle.keys.specs.Key.{inRange, second, relation, properKey, keyTestOf, keyTest}
 use Rattle.keys.proofs.Ranges.{sized-three}
 use Rattle.keys.proofs.Second.{double, length-second}
-use Rattle.choices.specs.Choices.{pair}
+use Rattle.vectors.specs.Pairs.{pair, squaresPair}
 use Rattle.choices.proofs.Pairs.{Sized}
+use Rattle.signing.specs.Response.{Lent}
 use Rattle.promises.proofs.Passed.{itself, must-passed, set-known}
 
 -- ---- the tests of a key
 module _ (s : Set) (a : List ℕ) (s1 s2 : List ℤ) (h : properKey s a s1 s2 ≡ Done) where
-  tests : (leb (keyLength s1 s2) (keyLimitOf s) ≡ true) × (relation a s1 s2 ≡ true)
+  tests : (leb (squaresPair (pair s1 s2)) (keyLimitOf s) ≡ true) × (relation a s1 s2 ≡ true)
   unfolding properKey
   tests =
-      let first = must-passed itself (leb (keyLength s1 s2) (keyLimitOf s)) KeyTooLong _ refl (ap isDone h) in
+      let first = must-passed itself (leb (squaresPair (pair s1 s2)) (keyLimitOf s)) KeyTooLong _ refl (ap isDone h) in
       (first .0, must-passed itself (relation a s1 s2) RelationBroken Done refl (first .1) .0)
 
   -- the squared length is at most K
-  pub key-short : keyLength s1 s2 ≤ keyLimitOf s
+  pub key-short : squaresPair (pair s1 s2) ≤ keyLimitOf s
   key-short = leb-true _ _ (tests .0)
 
   -- and a s1 = s2 modulo q
@@ -67,6 +70,10 @@ key-tested s f g a h =
       ranges = next .0;
       proper = sym (next .2) ∙ sym (first .2) ∙ h;
     }
+
+-- of what a signing call is lent
+pub passing : (set : ℕ) (s : Set) (c : Lent) → askedOf set ≡ Known s → numberOf (keyTest set (c .f) (c .g) (c .a)) ≡ 0 → Tested s (c .f) (c .g) (c .a)
+passing set s c known passes = key-tested s (c .f) (c .g) (c .a) (key-tested-for set s (c .f) (c .g) (c .a) known (zero-is _ passes))
 
 pub key-tested-some : (set : ℕ) (f g : List ℤ) (a : List ℕ) → keyTest set f g a ≡ Done → (s : Set) × Tested s f g a
 unfolding keyTest

@@ -16,6 +16,9 @@ use Rattle.laws.proofs.Entries.{length-zipWith, getD-zipWith, getD-map, length-
 use Rattle.laws.proofs.Solver.{v, k, _⊕_, _⊖_, _⊗_, ring}
 use Rattle.sets.specs.Numbers.{dimension, modulus, twiceModulus, factor, dOf, largestOf}
 use Rattle.answers.specs.declared.Outcome.{Outcome}
+use Rattle.answers.specs.declared.Outcome.the-variants.{Done}
+use Rattle.answers.specs.Outcomes.{numberOf}
+use Rattle.answers.proofs.Calls.{zero-is}
 use Rattle.polynomials.specs.Product.{wrapped, coefficient, times, product, one}
 use Rattle.polynomials.proofs.Carries.{Carries}
 use Rattle.polynomials.proofs.One.{length-one}
@@ -25,15 +28,16 @@ use Rattle.rounding.specs.Rounding.{summed}
 use Rattle.vectors.specs.Places.{listed}
 use Rattle.limits.specs.LengthRule.{entries, lengthRule}
 use Rattle.limits.proofs.Rule.{first-within, second-within, sum-within}
-use Rattle.keys.specs.Key.{second}
+use Rattle.keys.specs.Key.{second, keyTest}
 use Rattle.keys.proofs.Second.{length-second}
 use Rattle.commitment.specs.Commitment.{sums}
 use Rattle.commitment.proofs.Sums.{length-sums}
-use Rattle.choices.specs.Choices.{pair, signed}
+use Rattle.vectors.specs.Pairs.{pair}
+use Rattle.choices.specs.Choices.{addedIf}
 use Rattle.signing.specs.Response.{masked}
 use Rattle.checking.specs.Checking.{marks}
 use Rattle.checking.proofs.Marks.{length-marks, getD-marks}
-use Rattle.promises.specs.Published.{scaled, plus, modulo2q, zeta, ZetaInverts, a₁, KeyEquation, CommitmentSum, challenge, RebuildSum, minusOneTo, SignBit, LengthRules}
+use Rattle.promises.specs.Published.{scaled, vectorSum, modulo2q, zeta, ZetaInverts, a₁, KeyEquation, CommitmentSum, challenge, RebuildSum, minusOneTo, SignBit, LengthRules}
 use Rattle.promises.proofs.Keys.{key-tested-some, key-carries, second-parity}
 use Rattle.promises.proofs.Sums.{getD-sums}
 
@@ -88,15 +92,15 @@ modulo2q-same x y lx ly h =
     is-modulo2q (modulo2q x) y (length-map x (residue twiceModulus) ∙ lx) ly
     (λ i j. getD-map (residue twiceModulus) x i (pos 0) 0 (omega arith) ∙ residue-same (lit< tt) (h i j))
 
-length-plus : (x y : List ℤ) → length x ≡ dimension → length y ≡ dimension → length (plus x y) ≡ dimension
-length-plus x y lx ly = length-zipWith _+ℤ_ x y (lx ∙ sym ly) ∙ lx
+length-vectorSum : (x y : List ℤ) → length x ≡ dimension → length y ≡ dimension → length (vectorSum x y) ≡ dimension
+length-vectorSum x y lx ly = length-zipWith _+ℤ_ x y (lx ∙ sym ly) ∙ lx
 
 length-scaled : (x : ℤ) (y : List ℤ) → length y ≡ dimension → length (scaled x y) ≡ dimension
 length-scaled x y ly = length-map y (λ z. x *ℤ z) ∙ ly
 
-plus-at : (x y : List ℤ) → length x ≡ dimension → length y ≡ dimension → (i : ℕ) → i < dimension
-    → getD (plus x y) i (pos 0) ≡ getD x i (pos 0) +ℤ getD y i (pos 0)
-plus-at x y lx ly i h = getD-zipWith _+ℤ_ x y i (pos 0) (pos 0) (pos 0) (omega arith) (omega arith)
+vectorSum-at : (x y : List ℤ) → length x ≡ dimension → length y ≡ dimension → (i : ℕ) → i < dimension
+    → getD (vectorSum x y) i (pos 0) ≡ getD x i (pos 0) +ℤ getD y i (pos 0)
+vectorSum-at x y lx ly i h = getD-zipWith _+ℤ_ x y i (pos 0) (pos 0) (pos 0) (omega arith) (omega arith)
 
 scaled-at : (x : ℤ) (y : List ℤ) → length y ≡ dimension → (i : ℕ) → i < dimension → getD (scaled x y) i (pos 0) ≡ x *ℤ getD y i (pos 0)
 scaled-at x y ly i h = getD-map (λ z. x *ℤ z) y i (pos 0) (pos 0) (omega arith)
@@ -105,16 +109,16 @@ scaled-at x y ly i h = getD-map (λ z. x *ℤ z) y i (pos 0) (pos 0) (omega arit
 -- 12288 t + y modulo 2q is ζ a₁ x + y′ modulo 2q, where y = y′ modulo 2q
 sums-published : (a : List ℕ) (x y y′ : List ℤ) → length y ≡ dimension → length y′ ≡ dimension
     → ((i : ℕ) → i < dimension → Cong twiceModulus (getD y i (pos 0)) (getD y′ i (pos 0)))
-    → sums a x y ≡ modulo2q (plus (scaled (pos zeta) (times (a₁ a) x)) y′)
+    → sums a x y ≡ modulo2q (vectorSum (scaled (pos zeta) (times (a₁ a) x)) y′)
 unfolding summed
 sums-published a x y y′ ly ly′ same =
     let long = length-scaled (pos zeta) (times (a₁ a) x) (length-times (a₁ a) x) in
-    is-modulo2q (sums a x y) (plus (scaled (pos zeta) (times (a₁ a) x)) y′) (length-sums a x y ly) (length-plus (scaled (pos zeta) (times (a₁ a) x)) y′ long ly′)
+    is-modulo2q (sums a x y) (vectorSum (scaled (pos zeta) (times (a₁ a) x)) y′) (length-sums a x y ly) (length-vectorSum (scaled (pos zeta) (times (a₁ a) x)) y′ long ly′)
     (λ i h.
     getD-sums i h a x y ly
     ∙ residue-same (lit< tt)
     (cong-trans (cong-add (cong-sym (zeta-at a x i h)) (same i h))
-    (cong-eq (sym (plus-at (scaled (pos zeta) (times (a₁ a) x)) y′ long ly′ i h
+    (cong-eq (sym (vectorSum-at (scaled (pos zeta) (times (a₁ a) x)) y′ long ly′ i h
     ∙ ap (λ (z : ℤ). z +ℤ getD y′ i (pos 0)) (scaled-at (pos zeta) (times (a₁ a) x) (length-times (a₁ a) x) i h))))))
 
 pub commitment-sum : CommitmentSum
@@ -163,16 +167,16 @@ carried-at a x s h ls i j =
 
 pub key-equation : KeyEquation
 key-equation set f g a passes =
-    let some = key-tested-some set f g a passes in
+    let some = key-tested-some set f g a (zero-is (keyTest set f g a) passes) in
     let key = some .1 in
     let left = times (a₁ a) f in
     let right = scaled (pos (modulus - 2)) (second g) in
     let ls = length-second g ∙ key .long-g in
     let ll = length-times (a₁ a) f in
     let lr = length-scaled (pos (modulus - 2)) (second g) ls in
-    modulo2q-same (plus left right) (scaled (pos modulus) one) (length-plus left right ll lr) (length-scaled (pos modulus) one length-one)
+    modulo2q-same (vectorSum left right) (scaled (pos modulus) one) (length-vectorSum left right ll lr) (length-scaled (pos modulus) one length-one)
     (λ i h.
-    cong-trans (cong-eq (plus-at left right ll lr i h ∙ ap₂ _+ℤ_ (double-at a f i h) (scaled-at (pos (modulus - 2)) (second g) ls i h)))
+    cong-trans (cong-eq (vectorSum-at left right ll lr i h ∙ ap₂ _+ℤ_ (double-at a f i h) (scaled-at (pos (modulus - 2)) (second g) ls i h)))
     (cong-trans
     (key-place (getD (times (map pos a) f) i (pos 0)) (getD (second g) i (pos 0)) (getD one i (pos 0))
     (carried-at a f (second g) (key-carries (some .0) a f (second g) (key .proper)) ls i h) (second-parity g (key .long-g) i))
@@ -186,15 +190,15 @@ zip-scaled o p m h [] y = refl
 zip-scaled o p m h (x ∷ xs) [] = refl
 zip-scaled o p m h (x ∷ xs) (y ∷ ys) = ap₂ _∷_ (h x y) (zip-scaled o p m h xs ys)
 
-bit-is : (bit : Bool) (x y : ℤ) → signed (not bit) x y ≡ x +ℤ minusOneTo bit *ℤ y
+bit-is : (bit : Bool) (x y : ℤ) → addedIf (not bit) x y ≡ x +ℤ minusOneTo bit *ℤ y
 bit-is false x y = ring (x ∷ y ∷ []) (v 0 ⊕ v 1) (v 0 ⊕ k (pos 1) ⊗ v 1) refl
 bit-is true x y = ring (x ∷ y ∷ []) (v 0 ⊖ v 1) (v 0 ⊕ k (negsuc 0) ⊗ v 1) refl
 
 pub sign-bit : SignBit
 unfolding masked
 sign-bit bit y w =
-    ap₂ pair (zip-scaled (signed (not bit)) _+ℤ_ (minusOneTo bit) (bit-is bit) (y .first) (w .first))
-    (zip-scaled (signed (not bit)) _+ℤ_ (minusOneTo bit) (bit-is bit) (y .second) (w .second))
+    ap₂ pair (zip-scaled (addedIf (not bit)) _+ℤ_ (minusOneTo bit) (bit-is bit) (y .first) (w .first))
+    (zip-scaled (addedIf (not bit)) _+ℤ_ (minusOneTo bit) (bit-is bit) (y .second) (w .second))
 
 -- ---- Algorithm 5, lines 1 and 2
 entries-pass : (limit factor place : ℕ) (x : List ℤ) (next : Outcome) → ((i : ℕ) → factor * natAbs (getD x i (pos 0)) ≤ limit)
@@ -206,9 +210,11 @@ entries-pass limit factor place (y ∷ x) next h = rw (le-leb _ _ (h 0)) (entrie
 pub length-rules : LengthRules
 unfolding lengthRule
 length-rules s z1 z2 = (
-  λ kept. (sum-within s z1 z2 kept, first-within s z1 z2 kept, second-within s z1 z2 kept),
+  λ passes. let kept = zero-is (lengthRule s z1 z2) passes in (sum-within s z1 z2 kept, first-within s z1 z2 kept, second-within s z1 z2 kept),
   λ rules.
+      let done : lengthRule s z1 z2 ≡ Done =
       entries-pass (largestOf s) 1 0 z1 _ (λ i. omega (arith, rules .1 i))
       ∙ entries-pass (largestOf s) (2 ^ dOf s) dimension z2 _ (rules .2)
-      ∙ rw (le-leb _ _ (rules .0)),
+      ∙ rw (le-leb _ _ (rules .0)) in
+      ap numberOf done,
 )

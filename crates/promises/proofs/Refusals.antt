@@ -5,7 +5,6 @@ use mathlib.Core.List.{List, [], _∷_}
 use Prim.Native.Nat.{ℕ, suc, _*_, _≤_}
 use native.Mathlib.Omega.{arith}
 use borrow.Author.Needs.{needs}
-use borrow.Author.Tests.{eq-eqb}
 use lib.Dec.{leb}
 use lib.IntN.{ℤ, natAbs}
 use lib.ListN.{length}
@@ -14,26 +13,26 @@ use Rattle.sets.specs.declared.Set.{Set}
 use Rattle.sets.specs.declared.Asked.{Asked}
 use Rattle.sets.specs.declared.Asked.the-variants.{Known, Unknown}
 use Rattle.answers.specs.declared.Outcome.{Outcome}
-use Rattle.answers.specs.declared.Outcome.the-variants.{Done, Rejected, WordMissing, EntryBeyond, SumAbove}
+use Rattle.answers.specs.declared.Outcome.the-variants.{Done, DrawRejected, WordMissing, EntryBeyond, SumAbove}
 use Rattle.answers.specs.Outcomes.{numberOf, forSet, Filled, filled}
-use Rattle.answers.proofs.Calls.{done-is}
+use Rattle.answers.proofs.Calls.{zero-is}
 use Rattle.limits.specs.LengthRule.{entries, lengthRule}
 use Rattle.keys.specs.Key.{properKey}
 use Rattle.commitment.specs.Commitment.{commitment}
 use Rattle.draw.specs.declared.Ending.{Ending}
-use Rattle.draw.specs.declared.Ending.the-variants.{Accepted, Rejected as Turned, OutOfWords}
+use Rattle.draw.specs.declared.Ending.the-variants.{Accepted, Rejected, OutOfWords}
 use Rattle.draw.specs.Draw.{afterWalk}
-use Rattle.signing.specs.Response.{Responded, responded, drawn, signedWith, tested, responseFor, response}
-use Rattle.checking.specs.Checking.{rebuild}
+use Rattle.signing.specs.Response.{Lent, Responded, responded, drawn, responseFor, response}
+use Rattle.checking.specs.Checking.{Claim, rebuild}
 use Rattle.record_forms.specs.declared.Header.{Header}
 use Rattle.record_forms.specs.declared.Header.the-variants.{States, Malformed}
 use Rattle.record_forms.specs.Headers.{opened}
-use Rattle.records.specs.Writer.{Written, written, writingFor, writingOf}
+use Rattle.records.specs.Writer.{writingFor, writingOf}
 use Rattle.records.specs.Reader.{Found, found, readingFor, readingOf}
 use Rattle.promises.specs.Demands.{OnlyDone, CommitmentKeeps, RebuildKeeps, ResponseKeeps, WriterKeeps, ReaderKeeps, ResponseCounts}
 
 pub only-done : OnlyDone
-only-done = (refl, λ o e. done-is o (eq-eqb (numberOf o) 0 e))
+only-done = (refl, zero-is)
 
 -- ---- what holds of every way through a chain holds of its answer
 record Holds {A : Type 0} (P : A → Type 0) (x : A) : Type 0 where
@@ -51,7 +50,7 @@ module _ {A : Type 0} {P : A → Type 0} where
   walk-either : (ending : Ending) (accepted rejected : ℕ → A) (short : A) → ((n : ℕ) → Holds P (accepted n)) → ((n : ℕ) → Holds P (rejected n)) → Holds P short
       → Holds P (afterWalk ending accepted rejected short)
   walk-either (Accepted n) accepted rejected short p q r = p n
-  walk-either (Turned n) accepted rejected short p q r = q n
+  walk-either (Rejected n) accepted rejected short p q r = q n
   walk-either OutOfWords accepted rejected short p q r = r
 
   header-either : (header : Header) (malformed : ℕ → A) (states : Set → A) → ((place : ℕ) → Holds P (malformed place)) → ((s : Set) → Holds P (states s))
@@ -88,26 +87,19 @@ commitment-holds set a y1 y2 out = search (ways, ends)
 pub commitment-keeps : CommitmentKeeps
 commitment-keeps set a y1 y2 out o after e = subst (Keeps filledAnswer filledLeft out) e (commitment-holds set a y1 y2 out .is)
 
-rebuild-holds : (set : ℕ) (a : List ℕ) (z1 z2 : List ℤ) (l out : List ℕ) → Holds (Keeps filledAnswer filledLeft out) (rebuild set a z1 z2 l out)
+rebuild-holds : (set : ℕ) (a : List ℕ) (c : Claim) (out : List ℕ) → Holds (Keeps filledAnswer filledLeft out) (rebuild set a c out)
 unfolding rebuild
-rebuild-holds set a z1 z2 l out = search (ways, ends) depth 10
+rebuild-holds set a c out = search (ways, ends) depth 10
 
 pub rebuild-keeps : RebuildKeeps
-rebuild-keeps set a z1 z2 l out o after e = subst (Keeps filledAnswer filledLeft out) e (rebuild-holds set a z1 z2 l out .is)
+rebuild-keeps set a c out o after e = subst (Keeps filledAnswer filledLeft out) e (rebuild-holds set a c out .is)
 
--- the writer's output
-abbrev writtenAnswer : Written → Outcome
-writtenAnswer (written o after) = o
-
-abbrev writtenLeft : Written → List ℕ
-writtenLeft (written o after) = after
-
-writer-holds : (set : ℕ) (z1 z2 : List ℤ) (l out : List ℕ) → Holds (Keeps writtenAnswer writtenLeft out) (writingOf set z1 z2 l out)
+writer-holds : (set : ℕ) (z1 z2 : List ℤ) (l out : List ℕ) → Holds (Keeps filledAnswer filledLeft out) (writingOf set z1 z2 l out)
 unfolding writingOf writingFor
 writer-holds set z1 z2 l out = search (ways, ends) depth 10
 
 pub writer-keeps : WriterKeeps
-writer-keeps set z1 z2 l out o after e = subst (Keeps writtenAnswer writtenLeft out) e (writer-holds set z1 z2 l out .is)
+writer-keeps set z1 z2 l out o after e = subst (Keeps filledAnswer filledLeft out) e (writer-holds set z1 z2 l out .is)
 
 -- the reader's set and its three buffers
 abbrev foundAnswer : Found → Outcome
@@ -180,27 +172,26 @@ module _ (lent : ℕ) (z1 z2 : List ℤ) where
   counts-short : Holds (Counts lent) (responded WordMissing lent z1 z2)
   counts-short = record { is = (λ m n. absurd (omega arith), λ e. refl) }
 
-  counts-rejected : (count : ℕ) → Holds (Counts lent) (responded Rejected count z1 z2)
+  counts-rejected : (count : ℕ) → Holds (Counts lent) (responded DrawRejected count z1 z2)
   counts-rejected count = record { is = (λ m n. absurd (omega arith), λ e. absurd (omega arith)) }
 
   counts-late : (count : ℕ) (o : Outcome) → Holds Late o → Holds (Counts lent) (responded o count z1 z2)
   counts-late count o h =
       record { is = (λ m n. absurd (omega (arith, h .is m)), λ e. absurd (omega (arith, h .is (omega arith)))) }
 
-module _ (set : ℕ) (f g : List ℤ) (a : List ℕ) (y1 y2 : List ℤ) (l : List ℕ) (bit : Bool) (thresholds words : List ℕ) (out1 out2 : List ℤ) where
-  response-holds : Holds (Keeps respondedAnswer respondedLeft (out1, out2)) (response set f g a y1 y2 l bit thresholds words out1 out2)
-  unfolding response responseFor tested signedWith drawn
-  response-holds = search (ways, ends) depth 10
+module _ (set : ℕ) (c : Lent) where
+  response-holds : Holds (Keeps respondedAnswer respondedLeft (c .z1, c .z2)) (response set c)
+  unfolding response responseFor drawn
+  response-holds = search (ways, ends) depth 12
 
-  count-holds : Holds (Counts (length words)) (response set f g a y1 y2 l bit thresholds words out1 out2)
-  unfolding response responseFor tested signedWith drawn
+  count-holds : Holds (Counts (length (c .words))) (response set c)
+  unfolding response responseFor drawn
   count-holds = search (ways, early, early-key, counts-early, late-rule, late-done, counts-late, counts-rejected, counts-short) depth 12
 
 pub response-keeps : ResponseKeeps
-response-keeps set f g a y1 y2 l bit thresholds words out1 out2 o count after1 after2 e n =
-    let same = subst (Keeps respondedAnswer respondedLeft (out1, out2)) e (response-holds set f g a y1 y2 l bit thresholds words out1 out2 .is) n in
+response-keeps set c o count after1 after2 e n =
+    let same = subst (Keeps respondedAnswer respondedLeft (c .z1, c .z2)) e (response-holds set c .is) n in
     (ap (λ (x : List ℤ × List ℤ). x .0) same, ap (λ (x : List ℤ × List ℤ). x .1) same)
 
 pub response-counts : ResponseCounts
-response-counts set f g a y1 y2 l bit thresholds words out1 out2 o count after1 after2 e =
-    subst (Counts (length words)) e (count-holds set f g a y1 y2 l bit thresholds words out1 out2 .is)
+response-counts set c o count after1 after2 e = subst (Counts (length (c .words))) e (count-holds set c .is)

@@ -1,26 +1,25 @@
 -- A signature that was given out, and what the response has let pass before it. Assumes nothing.
 use mathlib.Core.Path.{_≡_, refl, sym, ap, _∙_}
-use mathlib.Core.Bool.{Bool, true, _&&_}
+use mathlib.Core.Bool.{true}
 use mathlib.Core.List.{List}
 use Prim.Native.Nat.{ℕ}
-use lib.Dec.{eqb}
 use lib.IntN.{ℤ}
 use lib.ListN.{length}
-use Rattle.laws.proofs.Chain.{and-left, and-right}
 use Rattle.sets.specs.declared.Set.{Set}
 use Rattle.sets.specs.declared.Asked.the-variants.{Known}
-use Rattle.sets.specs.Numbers.{dimension, places, askedOf}
+use Rattle.sets.specs.Numbers.{dimension, askedOf}
 use Rattle.answers.specs.declared.Outcome.{Outcome}
-use Rattle.answers.specs.declared.Outcome.the-variants.{Done, UnknownSet, WrongLength, CoefficientOutside, MaskOutside, ImproperList, Rejected, WordMissing}
+use Rattle.answers.specs.declared.Outcome.the-variants.{Done, UnknownSet, WrongLength, CoefficientOutside, MaskOutside, ImproperList, DrawRejected, WordMissing}
 use Rattle.answers.specs.Outcomes.{isDone}
 use Rattle.vectors.specs.Places.{properList}
 use Rattle.limits.specs.LengthRule.{lengthRule}
-use Rattle.keys.specs.Key.{inRange, second, properKey, sized}
-use Rattle.keys.proofs.Ranges.{sized-is}
-use Rattle.commitment.specs.Commitment.{areMasks, sums}
-use Rattle.choices.specs.Choices.{Pair, pair, choices}
+use Rattle.keys.specs.Key.{inRange, second, properKey}
+use Rattle.commitment.specs.Commitment.{areMasks}
+use Rattle.vectors.specs.Pairs.{Pair, pair}
+use Rattle.choices.specs.Choices.{choices}
 use Rattle.draw.specs.Draw.{walkOf}
-use Rattle.signing.specs.Response.{Responded, responded, masked, firstTrial, secondTrial, daggers, given, drawn, signedWith, tested, responseFor, response}
+use Rattle.signing.specs.Response.{Lent, secret, drawing, Responded, responded, leaving, masked, firstTrial, secondTrial, shortened, given, drawn, allSized, early, responseFor, response}
+use Rattle.signing.proofs.Ways.{all-sized}
 use Rattle.promises.proofs.Passed.{must-passed, unless-passed, set-known, walk-accepted}
 use Rattle.promises.proofs.Keys.{Tested}
 
@@ -34,88 +33,74 @@ firstOf (responded o count z1 z2) = z1
 abbrev secondOf : Responded → List ℤ
 secondOf (responded o count z1 z2) = z2
 
--- ---- the key's tests, the draw and the length rule
-module _ (s : Set) (s1 s2 : List ℤ) (a : List ℕ) (y1 y2 : List ℤ) (l : List ℕ) (bit : Bool) where
-  -- z = y + v or y - v
-  abbrev answered : Pair
-  answered = masked bit (pair y1 y2) (choices (pair s1 s2) l)
+-- v, the sign choices, and z = y + v or y - v
+abbrev pub chosenOf : Lent → Pair
+chosenOf c = choices (secret c) (c .list)
 
-  -- z1, z2 dagger, and the length rule that they keep
-  pub record GivenOut (z1 z2 : List ℤ) : Type 0 where
-    pub proper : properKey s a s1 s2 ≡ Done
-    pub first : z1 ≡ answered .first
-    pub dagger : z2 ≡ daggers s (sums a y1 y2) (answered .second)
-    pub rule : lengthRule s z1 z2 ≡ Done
+abbrev pub answeredOf : Lent → Pair
+answeredOf c = masked (c .sign) (pair (c .y1) (c .y2)) (chosenOf c)
 
-  module _ (thresholds words : List ℕ) (out1 out2 : List ℤ) (count : ℕ) (z1 z2 : List ℤ) where
-    given-with : signedWith s s1 s2 a y1 y2 l bit thresholds words out1 out2 ≡ responded Done count z1 z2 → GivenOut z1 z2
-    unfolding signedWith drawn
-    given-with h =
-        let v = choices (pair s1 s2) l in
-        let dagger2 = daggers s (sums a y1 y2) (answered .second) in
-        let key =
-        unless-passed outcomeOf (properKey s a s1 s2) (λ o. responded o 0 out1 out2) (drawn s a (pair y1 y2) answered v thresholds words out1 out2) refl
-        (ap (λ r. isDone (outcomeOf r)) h) in
-        let walk =
-        walk-accepted outcomeOf (walkOf (firstTrial s v) (secondTrial answered v) words thresholds)
-        (λ n. given s n (answered .first) dagger2 out1 out2) (λ n. responded Rejected n out1 out2) (responded WordMissing (length words) out1 out2)
-        (λ n. refl) refl (key .1) in
-        let rule =
-        unless-passed outcomeOf (lengthRule s (answered .first) dagger2) (λ o. responded o (walk .0) out1 out2)
-        (responded Done (walk .0) (answered .first) dagger2) refl (walk .1) in
-        let is : responded Done count z1 z2 ≡ responded Done (walk .0) (answered .first) dagger2 = sym h ∙ key .2 ∙ walk .2 ∙ rule .2 in
-        let first-is : z1 ≡ answered .first = ap firstOf is in
-        let dagger-is : z2 ≡ dagger2 = ap secondOf is in
-        record { proper = key .0; first = first-is; dagger = dagger-is; rule = rw (first-is, dagger-is) (rule .0) }
+-- ---- what the tests before the draw have let pass
+pub record Admitted (s : Set) (c : Lent) : Type 0 where
+  pub key : Tested s (c .f) (c .g) (c .a)
+  pub long-y1 : length (c .y1) ≡ dimension
+  pub long-y2 : length (c .y2) ≡ dimension
+  pub masks : areMasks (c .y1) (c .y2) ≡ true
+  pub list : properList s (c .list) ≡ true
 
--- ---- the tests before them
-pub record Admitted (s : Set) (f g : List ℤ) (a : List ℕ) (y1 y2 : List ℤ) (l : List ℕ) : Type 0 where
-  pub key : Tested s f g a
-  pub long-y1 : length y1 ≡ dimension
-  pub long-y2 : length y2 ≡ dimension
-  pub masks : areMasks y1 y2 ≡ true
-  pub list : properList s l ≡ true
+-- ---- z1 and z2 dagger, and the length rule that they keep
+pub record GivenOut (s : Set) (c : Lent) (z1 z2 : List ℤ) : Type 0 where
+  pub first : z1 ≡ answeredOf c .first
+  pub dagger : z2 ≡ shortened s (drawing c) (answeredOf c) .second
+  pub rule : lengthRule s z1 z2 ≡ Done
 
-module _ (f g : List ℤ) (a : List ℕ) (y1 y2 : List ℤ) (l : List ℕ) (bit : Bool) (thresholds words : List ℕ) (out1 out2 : List ℤ) (count : ℕ) (z1 z2 : List ℤ) where
-  given-for : (s : Set) → responseFor s f g a y1 y2 l bit thresholds words out1 out2 ≡ responded Done count z1 z2
-      → Admitted s f g a y1 y2 l × GivenOut s f (second g) a y1 y2 l bit z1 z2
-  unfolding responseFor tested
+module _ (c : Lent) (count : ℕ) (z1 z2 : List ℤ) where
+  abbrev done : Responded
+  done = responded Done count z1 z2
+
+  given-drawn : (s : Set) → drawn s (drawing c) (chosenOf c) ≡ done → GivenOut s c z1 z2
+  unfolding drawn
+  given-drawn s h =
+      let old = pair (c .z1) (c .z2) in
+      let z = shortened s (drawing c) (answeredOf c) in
+      let walk =
+      walk-accepted outcomeOf (walkOf (firstTrial s (chosenOf c)) (secondTrial (answeredOf c) (chosenOf c)) (c .words) (c .thresholds))
+      (λ n. given s old n z) (λ n. leaving old n DrawRejected) (leaving old (length (c .words)) WordMissing)
+      (λ n. refl) refl (ap (λ r. isDone (outcomeOf r)) h) in
+      let rule = unless-passed outcomeOf (lengthRule s (z .first) (z .second)) (leaving old (walk .0)) (leaving z (walk .0) Done) refl (walk .1) in
+      let is : done ≡ leaving z (walk .0) Done = sym h ∙ walk .2 ∙ rule .2 in
+      let first-is : z1 ≡ z .first = ap firstOf is in
+      let dagger-is : z2 ≡ z .second = ap secondOf is in
+      record { first = first-is; dagger = dagger-is; rule = rw (first-is, dagger-is) (rule .0) }
+
+  given-for : (s : Set) → responseFor s c ≡ done → Admitted s c × GivenOut s c z1 z2
+  unfolding responseFor
   given-for s h =
-      let lengths = sized f && (sized g && (sized a && (sized y1 && (sized y2 && (sized out1 && (sized out2 && eqb (length thresholds) places)))))) in
-      let one = must-passed outcomeOf lengths (responded WrongLength 0 out1 out2) _ refl (ap (λ r. isDone (outcomeOf r)) h) in
-      let two = must-passed outcomeOf (inRange f g a) (responded CoefficientOutside 0 out1 out2) _ refl (one .1) in
-      let three = must-passed outcomeOf (areMasks y1 y2) (responded MaskOutside 0 out1 out2) _ refl (two .1) in
-      let four =
-      must-passed outcomeOf (properList s l) (responded ImproperList 0 out1 out2)
-      (signedWith s f (second g) a y1 y2 l bit thresholds words out1 out2) refl (three .1) in
-      let signature =
-      given-with s f (second g) a y1 y2 l bit thresholds words out1 out2 count z1 z2 (sym (four .2) ∙ sym (three .2) ∙ sym (two .2) ∙ sym (one .2) ∙ h) in
-      let after-f = and-right (sized f) _ (one .0) in
-      let after-g = and-right (sized g) _ after-f in
-      let after-a = and-right (sized a) _ after-g in
-      let after-y1 = and-right (sized y1) _ after-a in (
+      let one = must-passed outcomeOf (allSized c) (early c WrongLength) _ refl (ap (λ r. isDone (outcomeOf r)) h) in
+      let two = must-passed outcomeOf (inRange (c .f) (c .g) (c .a)) (early c CoefficientOutside) _ refl (one .1) in
+      let three = must-passed outcomeOf (areMasks (c .y1) (c .y2)) (early c MaskOutside) _ refl (two .1) in
+      let four = must-passed outcomeOf (properList s (c .list)) (early c ImproperList) _ refl (three .1) in
+      let five = unless-passed outcomeOf (properKey s (c .a) (c .f) (second (c .g))) (early c) (drawn s (drawing c) (chosenOf c)) refl (four .1) in
+      let long = all-sized c (one .0) in (
         record {
           key = record {
-            long-f = sized-is f (and-left (sized f) _ (one .0));
-            long-g = sized-is g (and-left (sized g) _ after-f);
-            long-a = sized-is a (and-left (sized a) _ after-g);
+            long-f = long .0 .0;
+            long-g = long .0 .1;
+            long-a = long .0 .2;
             ranges = two .0;
-            proper = signature .proper;
+            proper = five .0;
           };
-          long-y1 = sized-is y1 (and-left (sized y1) _ after-a);
-          long-y2 = sized-is y2 (and-left (sized y2) _ after-y1);
+          long-y1 = long .1 .0;
+          long-y2 = long .1 .1;
           masks = three .0;
           list = four .0;
         },
-        signature,
+        given-drawn s (sym (five .2) ∙ sym (four .2) ∙ sym (three .2) ∙ sym (two .2) ∙ sym (one .2) ∙ h),
       )
 
-  pub given-out : (set : ℕ) → response set f g a y1 y2 l bit thresholds words out1 out2 ≡ responded Done count z1 z2
-      → (s : Set) × (askedOf set ≡ Known s) × Admitted s f g a y1 y2 l × GivenOut s f (second g) a y1 y2 l bit z1 z2
+  pub given-out : (set : ℕ) → response set c ≡ done → (s : Set) × (askedOf set ≡ Known s) × Admitted s c × GivenOut s c z1 z2
   unfolding response
   given-out set h =
-      let known =
-      set-known outcomeOf (askedOf set) (responded UnknownSet 0 out1 out2) (λ s. responseFor s f g a y1 y2 l bit thresholds words out1 out2) refl
-      (ap (λ r. isDone (outcomeOf r)) h) in
+      let known = set-known outcomeOf (askedOf set) (early c UnknownSet) (λ s. responseFor s c) refl (ap (λ r. isDone (outcomeOf r)) h) in
       let both = given-for (known .0) (sym (known .3) ∙ h) in
       (known .0, known .1, both .0, both .1)

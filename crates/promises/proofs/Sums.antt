@@ -18,9 +18,9 @@ use Rattle.polynomials.proofs.Carries.{Carries, carries-product, carries-linear
 use Rattle.polynomials.proofs.Residues.{length-product}
 use Rattle.rounding.specs.Rounding.{summed}
 use Rattle.commitment.specs.Commitment.{sums}
-use Rattle.choices.specs.Choices.{signed}
-use Rattle.choices.proofs.Pairs.{signed-at}
-use Rattle.choices.proofs.Sums.{signed-linear}
+use Rattle.choices.specs.Choices.{addedIf}
+use Rattle.choices.proofs.Pairs.{addedIf-at}
+use Rattle.choices.proofs.Sums.{addedIf-linear}
 
 -- ---- at one place, over whole numbers
 -- t′ = t + e modulo q, and e has the parity of c
@@ -50,14 +50,14 @@ summed-agree t t′ e c carried parity y =
 
 -- ---- either sign bit
 -- y + v or y - v, as y plus something
-signed-as : (b : Bool) (x e : ℤ) → signed b x e ≡ x +ℤ signed b (pos 0) e
-signed-as true x e = ring (x ∷ e ∷ []) (v 0 ⊕ v 1) (v 0 ⊕ (k (pos 0) ⊕ v 1)) refl
-signed-as false x e = ring (x ∷ e ∷ []) (v 0 ⊖ v 1) (v 0 ⊕ (k (pos 0) ⊖ v 1)) refl
+addedIf-as : (b : Bool) (x e : ℤ) → addedIf b x e ≡ x +ℤ addedIf b (pos 0) e
+addedIf-as true x e = ring (x ∷ e ∷ []) (v 0 ⊕ v 1) (v 0 ⊕ (k (pos 0) ⊕ v 1)) refl
+addedIf-as false x e = ring (x ∷ e ∷ []) (v 0 ⊖ v 1) (v 0 ⊕ (k (pos 0) ⊖ v 1)) refl
 
 -- neither sign changes the parity
-signed-parity : (b : Bool) (e c : ℤ) → Cong 2 e c → Cong 2 (signed b (pos 0) e) c
-signed-parity true e c h = cong-trans (cong-eq (ring (e ∷ []) (k (pos 0) ⊕ v 0) (v 0) refl)) h
-signed-parity false e c h =
+addedIf-parity : (b : Bool) (e c : ℤ) → Cong 2 e c → Cong 2 (addedIf b (pos 0) e) c
+addedIf-parity true e c h = cong-trans (cong-eq (ring (e ∷ []) (k (pos 0) ⊕ v 0) (v 0) refl)) h
+addedIf-parity false e c h =
     record {
       times = negℤ (c +ℤ h .times);
       eq = ap (λ (x : ℤ). pos 0 -ℤ x) (h .eq)
@@ -76,28 +76,28 @@ module _ (i : ℕ) (inside : i < dimension) where
       (ly1 : length y1 ≡ dimension) (ly2 : length y2 ≡ dimension) (lv1 : length v1 ≡ dimension) (lv2 : length v2 ≡ dimension)
       (carries : Carries a v1 v2) where
     -- a z1 = a y1 + v2, or a y1 - v2, modulo q
-    product-carried : Cong modulus (pos (getD (product a (zipWith (signed b) y1 v1)) i 0))
-        (pos (getD (product a y1) i 0) +ℤ signed b (pos 0) (getD v2 i (pos 0)))
+    product-carried : Cong modulus (pos (getD (product a (zipWith (addedIf b) y1 v1)) i 0))
+        (pos (getD (product a y1) i 0) +ℤ addedIf b (pos 0) (getD v2 i (pos 0)))
     product-carried =
-        let whole = zipWith (signed b) (map pos (product a y1)) v2 in
+        let whole = zipWith (addedIf b) (map pos (product a y1)) v2 in
         let long : length (map pos (product a y1)) ≡ dimension = length-map (product a y1) pos ∙ length-product a y1 in
         let same : length (map pos (product a y1)) ≡ length v2 = long ∙ sym lv2 in
-        let at : getD whole i (pos 0) ≡ pos (getD (product a y1) i 0) +ℤ signed b (pos 0) (getD v2 i (pos 0)) =
-        signed-at b (map pos (product a y1)) v2 same i ∙ ap (λ x. signed b x (getD v2 i (pos 0))) (List·getD-map pos (product a y1) i 0)
-        ∙ signed-as b (pos (getD (product a y1) i 0)) (getD v2 i (pos 0)) in
-        let is : getD (product a (zipWith (signed b) y1 v1)) i 0 ≡ residue modulus (getD whole i (pos 0)) =
-        ap (λ (x : List ℕ). getD x i 0) (carries-linear a la ly1 lv1 (carries-product a y1) carries (signed-linear b) .is)
-        ∙ getD-map (residue modulus) whole i (pos 0) 0 (omega (arith, length-zipWith (signed b) (map pos (product a y1)) v2 same)) in
+        let at : getD whole i (pos 0) ≡ pos (getD (product a y1) i 0) +ℤ addedIf b (pos 0) (getD v2 i (pos 0)) =
+        addedIf-at b (map pos (product a y1)) v2 same i ∙ ap (λ x. addedIf b x (getD v2 i (pos 0))) (List·getD-map pos (product a y1) i 0)
+        ∙ addedIf-as b (pos (getD (product a y1) i 0)) (getD v2 i (pos 0)) in
+        let is : getD (product a (zipWith (addedIf b) y1 v1)) i 0 ≡ residue modulus (getD whole i (pos 0)) =
+        ap (λ (x : List ℕ). getD x i 0) (carries-linear a la ly1 lv1 (carries-product a y1) carries (addedIf-linear b) .is)
+        ∙ getD-map (residue modulus) whole i (pos 0) 0 (omega (arith, length-zipWith (addedIf b) (map pos (product a y1)) v2 same)) in
         cong-trans (cong-eq (ap pos is)) (cong-trans (cong-sym (residue-cong (lit< tt) (getD whole i (pos 0)))) (cong-eq at))
 
     -- the checker's sum, with q c beside 12288 (a z1), is the signer's less z2, modulo 2q
     pub sums-at : (marks : List ℤ) (c : ℤ) → length marks ≡ dimension → getD marks i (pos 0) ≡ pos modulus *ℤ c → Cong 2 (getD v2 i (pos 0)) c
-        → getD (sums a (zipWith (signed b) y1 v1) marks) i 0
-        ≡ residue twiceModulus (pos (getD (sums a y1 y2) i 0) -ℤ getD (zipWith (signed b) y2 v2) i (pos 0))
+        → getD (sums a (zipWith (addedIf b) y1 v1) marks) i 0
+        ≡ residue twiceModulus (pos (getD (sums a y1 y2) i 0) -ℤ getD (zipWith (addedIf b) y2 v2) i (pos 0))
     sums-at marks c lm mark parity =
-        getD-sums a (zipWith (signed b) y1 v1) marks lm
-        ∙ ap (summed (getD (product a (zipWith (signed b) y1 v1)) i 0)) mark
-        ∙ summed-agree (getD (product a y1) i 0) _ (signed b (pos 0) (getD v2 i (pos 0))) c product-carried
-        (signed-parity b (getD v2 i (pos 0)) c parity) (getD y2 i (pos 0))
+        getD-sums a (zipWith (addedIf b) y1 v1) marks lm
+        ∙ ap (summed (getD (product a (zipWith (addedIf b) y1 v1)) i 0)) mark
+        ∙ summed-agree (getD (product a y1) i 0) _ (addedIf b (pos 0) (getD v2 i (pos 0))) c product-carried
+        (addedIf-parity b (getD v2 i (pos 0)) c parity) (getD y2 i (pos 0))
         ∙ ap₂ (λ (u : ℕ) (z : ℤ). residue twiceModulus (pos u -ℤ z)) (sym (getD-sums a y1 y2 ly2))
-        (sym (signed-at b y2 v2 (ly2 ∙ sym lv2) i ∙ signed-as b (getD y2 i (pos 0)) (getD v2 i (pos 0))))
+        (sym (addedIf-at b y2 v2 (ly2 ∙ sym lv2) i ∙ addedIf-as b (getD y2 i (pos 0)) (getD v2 i (pos 0))))

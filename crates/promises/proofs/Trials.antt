@@ -21,13 +21,14 @@ use Rattle.keys.specs.Key.{second}
 use Rattle.keys.proofs.Ranges.{f-small, g-small}
 use Rattle.keys.proofs.Second.{second-within}
 use Rattle.commitment.specs.Commitment.{areMasks}
-use Rattle.choices.specs.Choices.{Pair, pair, signed, choices}
+use Rattle.vectors.specs.Pairs.{Pair, pair}
+use Rattle.choices.specs.Choices.{addedIf, choices}
 use Rattle.choices.proofs.Pairs.{Sized, Within}
 use Rattle.signing.specs.Response.{masked}
 use Rattle.signing.proofs.Numbers.{first-mask, second-mask, sizes-z, trial-fits}
 use Rattle.signing.proofs.Ways.{short-key, chosen-sized, chosen-short, chosen-within}
 use Rattle.promises.specs.Demands.{TrialsFit}
-use Rattle.promises.proofs.Keys.{Tested, key-tested, key-tested-for, key-sized}
+use Rattle.promises.proofs.Keys.{Tested, key-sized, passing}
 
 module _ (s : Set) (f g : List ℤ) (a l : List ℕ) (key : Tested s f g a) (proper : properList s l ≡ true) where
   abbrev v : Pair
@@ -50,10 +51,10 @@ module _ (s : Set) (f g : List ℤ) (a l : List ℕ) (key : Tested s f g a) (pro
 
   module _ (y1 y2 : List ℤ) (bit : Bool) (l1 : length y1 ≡ dimension) (l2 : length y2 ≡ dimension) (masks : areMasks y1 y2 ≡ true) where
     abbrev z1 : List ℤ
-    z1 = zipWith (signed (not bit)) y1 (v .first)
+    z1 = zipWith (addedIf (not bit)) y1 (v .first)
 
     abbrev z2 : List ℤ
-    z2 = zipWith (signed (not bit)) y2 (v .second)
+    z2 = zipWith (addedIf (not bit)) y2 (v .second)
 
     fits : sizes z1 (v .first) + sizes z2 (v .second) < 2 ^ 30
     fits =
@@ -68,6 +69,10 @@ module _ (s : Set) (f g : List ℤ) (a l : List ℕ) (key : Tested s f g a) (pro
 
 pub trials-fit : TrialsFit
 unfolding masked
-trials-fit set s f g a y1 y2 l bit known passes l1 l2 masks proper =
-    let key = key-tested s f g a (key-tested-for set s f g a known passes) in
-    (short s f g a l key proper, omega (arith, first-trial s), second-fits s f g a l key proper y1 y2 bit l1 l2 masks)
+trials-fit set s c h =
+    let key = passing set s c (h .asked) (h .key) in
+    let l = c .list in (
+      short s (c .f) (c .g) (c .a) l key (h .list),
+      omega (arith, first-trial s),
+      second-fits s (c .f) (c .g) (c .a) l key (h .list) (c .y1) (c .y2) (c .sign) (h .long-y1) (h .long-y2) (h .masks),
+    )

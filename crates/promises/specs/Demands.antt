@@ -1,7 +1,7 @@
 -- Demands 1 and 3, over the definitions that the calls' contracts cite. Each statement is proved in proofs/ under its own name:
--- `commitment-keeps : CommitmentKeeps`, and so on. The paper's number of an outcome is `numberOf`; 0 is that of `Done` and of no other (`OnlyDone`).
+-- `commitment-keeps : CommitmentKeeps`, and so on. An answer is spoken of by the paper's number of its outcome, `numberOf`; 0 is "done" (`OnlyDone`).
 use mathlib.Core.Path.{_≡_}
-use mathlib.Core.Bool.{Bool, true}
+use mathlib.Core.Bool.{true}
 use mathlib.Core.List.{List}
 use Prim.Native.Nat.{ℕ, _*_, _^_, _<_, _≤_}
 use lib.IntN.{ℤ}
@@ -11,14 +11,15 @@ use Rattle.sets.specs.declared.Asked.the-variants.{Known}
 use Rattle.sets.specs.Numbers.{dimension, places, kappaOf, keyLimitOf, askedOf}
 use Rattle.answers.specs.declared.Outcome.{Outcome}
 use Rattle.answers.specs.declared.Outcome.the-variants.{Done}
-use Rattle.answers.specs.Outcomes.{numberOf, filled}
+use Rattle.answers.specs.Outcomes.{numberOf, Filled, filled}
+use Rattle.vectors.specs.Pairs.{pair, squaresPair}
 use Rattle.vectors.specs.Places.{properList}
-use Rattle.keys.specs.Key.{second, keyLength, keyTest}
-use Rattle.commitment.specs.Commitment.{areMasks, commitment}
-use Rattle.choices.specs.Choices.{pair, squaresPair, choices}
-use Rattle.signing.specs.Response.{responded, masked, firstTrial, secondTrial, drawn, response}
-use Rattle.checking.specs.Checking.{rebuild, comparison}
-use Rattle.records.specs.Writer.{written, writingOf}
+use Rattle.keys.specs.Key.{keyTest}
+use Rattle.commitment.specs.Commitment.{areMasks, committed, commitment}
+use Rattle.choices.specs.Choices.{choices}
+use Rattle.signing.specs.Response.{Lent, secret, drawing, responded, masked, firstTrial, secondTrial, drawn, response}
+use Rattle.checking.specs.Checking.{Claim, claim, rebuild, comparison}
+use Rattle.records.specs.Writer.{writingOf}
 use Rattle.records.specs.Reader.{found, readingOf}
 
 -- ---- demand 1: each refusal "leaves the output buffers with the contents they came with"
@@ -37,25 +38,24 @@ CommitmentKeeps =
 -- the rebuild's vector
 abbrev pub RebuildKeeps : Type 0
 RebuildKeeps =
-    (set : ℕ) (a : List ℕ) (z1 z2 : List ℤ) (l out : List ℕ) (o : Outcome) (after : List ℕ)
-    → rebuild set a z1 z2 l out ≡ filled o after
+    (set : ℕ) (a : List ℕ) (c : Claim) (out : List ℕ) (o : Outcome) (after : List ℕ)
+    → rebuild set a c out ≡ filled o after
     → (numberOf o ≡ 0 → ⊥)
     → after ≡ out
 
 -- both vectors of the response
 abbrev pub ResponseKeeps : Type 0
 ResponseKeeps =
-    (set : ℕ) (f g : List ℤ) (a : List ℕ) (y1 y2 : List ℤ) (l : List ℕ) (bit : Bool) (thresholds words : List ℕ) (out1 out2 : List ℤ)
-    (o : Outcome) (count : ℕ) (after1 after2 : List ℤ)
-    → response set f g a y1 y2 l bit thresholds words out1 out2 ≡ responded o count after1 after2
+    (set : ℕ) (c : Lent) (o : Outcome) (count : ℕ) (after1 after2 : List ℤ)
+    → response set c ≡ responded o count after1 after2
     → (numberOf o ≡ 0 → ⊥)
-    → (after1 ≡ out1) × (after2 ≡ out2)
+    → (after1 ≡ c .z1) × (after2 ≡ c .z2)
 
 -- the writer's output
 abbrev pub WriterKeeps : Type 0
 WriterKeeps =
     (set : ℕ) (z1 z2 : List ℤ) (l out : List ℕ) (o : Outcome) (after : List ℕ)
-    → writingOf set z1 z2 l out ≡ written o after
+    → writingOf set z1 z2 l out ≡ filled o after
     → (numberOf o ≡ 0 → ⊥)
     → after ≡ out
 
@@ -70,74 +70,83 @@ ReaderKeeps =
 -- "The word count is 0 for refusals before the draw; with 9 it is the number of words lent" (01). The refusals before the draw are numbers 1 to 7
 abbrev pub ResponseCounts : Type 0
 ResponseCounts =
-    (set : ℕ) (f g : List ℤ) (a : List ℕ) (y1 y2 : List ℤ) (l : List ℕ) (bit : Bool) (thresholds words : List ℕ) (out1 out2 : List ℤ)
-    (o : Outcome) (count : ℕ) (after1 after2 : List ℤ)
-    → response set f g a y1 y2 l bit thresholds words out1 out2 ≡ responded o count after1 after2
-    → (1 ≤ numberOf o → numberOf o ≤ 7 → count ≡ 0) × (numberOf o ≡ 9 → count ≡ length words)
+    (set : ℕ) (c : Lent) (o : Outcome) (count : ℕ) (after1 after2 : List ℤ)
+    → response set c ≡ responded o count after1 after2
+    → (1 ≤ numberOf o → numberOf o ≤ 7 → count ≡ 0) × (numberOf o ≡ 9 → count ≡ length (c .words))
 
 -- ---- demand 3
+
+-- the call answers 0 and leaves this vector
+abbrev pub Fills : Filled → List ℕ → Type 0
+Fills call vector = (o : Outcome) × (call ≡ filled o vector) × (numberOf o ≡ 0)
+
+-- "any key that passes the key test, any masks within their limit, any proper challenge list, either sign bit, any thresholds and any random words"
+pub record Admissible (set : ℕ) (s : Set) (c : Lent) : Type 0 where
+  pub asked : askedOf set ≡ Known s
+  pub key : numberOf (keyTest set (c .f) (c .g) (c .a)) ≡ 0
+  pub masks : areMasks (c .y1) (c .y2) ≡ true
+  pub list : properList s (c .list) ≡ true
+  pub long-y1 : length (c .y1) ≡ dimension
+  pub long-y2 : length (c .y2) ≡ dimension
+
+-- "every buffer .. at its stated length" (01), and 31 thresholds
+pub record Buffered (c : Lent) : Type 0 where
+  pub long-thresholds : length (c .thresholds) ≡ places
+  pub long-z1 : length (c .z1) ≡ dimension
+  pub long-z2 : length (c .z2) ≡ dimension
 
 -- "Take any key that passes the key test, .. any proper challenge list, .. Then the key's challenge response is never longer, squared, than the challenge
 -- size times the key's squared length."
 abbrev pub ResponseLength : Type 0
 ResponseLength =
-    (set : ℕ) (s : Set) (f g : List ℤ) (a l : List ℕ)
+    (set : ℕ) (s : Set) (c : Lent)
     → askedOf set ≡ Known s
-    → keyTest set f g a ≡ Done
-    → properList s l ≡ true
-    → squaresPair (choices (pair f (second g)) l) ≤ kappaOf s * keyLength f (second g)
+    → numberOf (keyTest set (c .f) (c .g) (c .a)) ≡ 0
+    → properList s (c .list) ≡ true
+    → squaresPair (choices (secret c) (c .list)) ≤ kappaOf s * squaresPair (secret c)
 
 -- "And if a signature is given out, the checker, holding only the public key, the signature and the same list, refuses nothing and rebuilds exactly the
--- rounded vector that the signer committed to", for either sign bit, any thresholds and any random words. The key, the masks and the list are what the
--- response itself has let pass. `before` and `old` are what the vectors of the commitment and of the rebuild held.
+-- rounded vector that the signer committed to", for either sign bit, any thresholds and any random words: the vector that the commitment's definition gives
+-- for the same masks. The key, the masks and the list are what the response itself has let pass. `before` and `old` are what the vectors of the commitment
+-- and of the rebuild held.
 abbrev pub GivenOutIsAccepted : Type 0
 GivenOutIsAccepted =
-    (set : ℕ) (f g : List ℤ) (a : List ℕ) (y1 y2 : List ℤ) (l : List ℕ) (bit : Bool) (thresholds words : List ℕ) (out1 out2 : List ℤ)
-    (count : ℕ) (z1 z2 : List ℤ)
-    → response set f g a y1 y2 l bit thresholds words out1 out2 ≡ responded Done count z1 z2
-    → (before old : List ℕ) → length before ≡ dimension → length old ≡ dimension
-    → (rounded : List ℕ) × (commitment set a y1 y2 before ≡ filled Done rounded) × (rebuild set a z1 z2 l old ≡ filled Done rounded)
+    (set : ℕ) (c : Lent) (o : Outcome) (count : ℕ) (z1 z2 : List ℤ) (before old : List ℕ)
+    → response set c ≡ responded o count z1 z2
+    → numberOf o ≡ 0
+    → length before ≡ dimension → length old ≡ dimension
+    → (s : Set) × (askedOf set ≡ Known s)
+    × Fills (commitment set (c .a) (c .y1) (c .y2) before) (committed s (c .a) (c .y1) (c .y2))
+    × Fills (rebuild set (c .a) (claim z1 z2 (c .list)) old) (committed s (c .a) (c .y1) (c .y2))
 
 -- The numbers of the draw's two trials are those that 01 writes, with nothing lost: v is no longer, squared, than kappa K, so that the first is a difference of
 -- whole numbers, and neither has a binary place above 30, so that a trial looks at all of it.
 abbrev pub TrialsFit : Type 0
 TrialsFit =
-    (set : ℕ) (s : Set) (f g : List ℤ) (a : List ℕ) (y1 y2 : List ℤ) (l : List ℕ) (bit : Bool)
-    → askedOf set ≡ Known s
-    → keyTest set f g a ≡ Done
-    → length y1 ≡ dimension → length y2 ≡ dimension → areMasks y1 y2 ≡ true
-    → properList s l ≡ true
-    → (squaresPair (choices (pair f (second g)) l) ≤ kappaOf s * keyLimitOf s)
-    × (firstTrial s (choices (pair f (second g)) l) < 2 ^ places)
-    × (secondTrial (masked bit (pair y1 y2) (choices (pair f (second g)) l)) (choices (pair f (second g)) l) < 2 ^ places)
+    (set : ℕ) (s : Set) (c : Lent)
+    → Admissible set s c
+    → (squaresPair (choices (secret c) (c .list)) ≤ kappaOf s * keyLimitOf s)
+    × (firstTrial s (choices (secret c) (c .list)) < 2 ^ places)
+    × (secondTrial (masked (c .sign) (pair (c .y1) (c .y2)) (choices (secret c) (c .list))) (choices (secret c) (c .list)) < 2 ^ places)
 
--- Those premises are enough to come to the draw: with a key that passes the key test, masks within their limit, a proper list, and buffers and
--- thresholds at their stated lengths, the response refuses nothing before the draw, whatever the sign bit, the thresholds and the words are.
+-- Those premises are enough to come to the draw: the response refuses nothing before it, whatever the sign bit, the thresholds and the words are.
 abbrev pub ReachesTheDraw : Type 0
 ReachesTheDraw =
-    (set : ℕ) (s : Set) (f g : List ℤ) (a : List ℕ) (y1 y2 : List ℤ) (l : List ℕ) (bit : Bool) (thresholds words : List ℕ) (out1 out2 : List ℤ)
-    → askedOf set ≡ Known s
-    → keyTest set f g a ≡ Done
-    → length y1 ≡ dimension → length y2 ≡ dimension → areMasks y1 y2 ≡ true
-    → properList s l ≡ true
-    → length thresholds ≡ places → length out1 ≡ dimension → length out2 ≡ dimension
-    → response set f g a y1 y2 l bit thresholds words out1 out2
-    ≡ drawn s a (pair y1 y2) (masked bit (pair y1 y2) (choices (pair f (second g)) l)) (choices (pair f (second g)) l) thresholds words out1 out2
+    (set : ℕ) (s : Set) (c : Lent)
+    → Admissible set s c → Buffered c
+    → response set c ≡ drawn s (drawing c) (choices (secret c) (c .list))
 
--- Demand 3 as it stands, with "every buffer, the checker's included, at its stated length" (01): both sentences under all the premises it names; the checker
--- compares the list that came with the signature with the same list.
+-- Demand 3 as it stands, the checker's buffers at their stated length too: both sentences under all the premises it names; the checker compares the list that
+-- came with the signature with the same list.
 abbrev pub Demand3 : Type 0
 Demand3 =
-    (set : ℕ) (s : Set) (f g : List ℤ) (a : List ℕ) (y1 y2 : List ℤ) (l : List ℕ) (bit : Bool) (thresholds words : List ℕ) (out1 out2 : List ℤ)
-    (before old : List ℕ)
-    → askedOf set ≡ Known s
-    → keyTest set f g a ≡ Done
-    → areMasks y1 y2 ≡ true
-    → properList s l ≡ true
-    → length y1 ≡ dimension → length y2 ≡ dimension → length thresholds ≡ places → length out1 ≡ dimension → length out2 ≡ dimension
+    (set : ℕ) (s : Set) (c : Lent) (before old : List ℕ)
+    → Admissible set s c → Buffered c
     → length before ≡ dimension → length old ≡ dimension
-    → (squaresPair (choices (pair f (second g)) l) ≤ kappaOf s * keyLength f (second g))
-    × ((count : ℕ) (z1 z2 : List ℤ)
-    → response set f g a y1 y2 l bit thresholds words out1 out2 ≡ responded Done count z1 z2
-    → (comparison set l l ≡ Done)
-    × ((rounded : List ℕ) × (commitment set a y1 y2 before ≡ filled Done rounded) × (rebuild set a z1 z2 l old ≡ filled Done rounded)))
+    → (squaresPair (choices (secret c) (c .list)) ≤ kappaOf s * squaresPair (secret c))
+    × ((o : Outcome) (count : ℕ) (z1 z2 : List ℤ)
+    → response set c ≡ responded o count z1 z2
+    → numberOf o ≡ 0
+    → (numberOf (comparison set (c .list) (c .list)) ≡ 0)
+    × Fills (commitment set (c .a) (c .y1) (c .y2) before) (committed s (c .a) (c .y1) (c .y2))
+    × Fills (rebuild set (c .a) (claim z1 z2 (c .list)) old) (committed s (c .a) (c .y1) (c .y2)))

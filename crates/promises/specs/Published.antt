@@ -13,14 +13,15 @@ use Rattle.laws.specs.Integers.{residue}
 use Rattle.laws.specs.Lists.{zipWith, tabulate}
 use Rattle.sets.specs.declared.Set.{Set}
 use Rattle.sets.specs.Numbers.{dimension, modulus, twiceModulus, dOf, largestOf, boundSquaredOf}
-use Rattle.answers.specs.declared.Outcome.the-variants.{Done}
+use Rattle.answers.specs.Outcomes.{numberOf}
 use Rattle.polynomials.specs.Product.{times, shift, one}
 use Rattle.vectors.specs.Vectors.{squares, inner}
 use Rattle.vectors.specs.Places.{listed}
 use Rattle.limits.specs.LengthRule.{lengthRule}
 use Rattle.keys.specs.Key.{second, keyTest}
 use Rattle.commitment.specs.Commitment.{sums}
-use Rattle.choices.specs.Choices.{Pair, pair, choices}
+use Rattle.vectors.specs.Pairs.{Pair, pair}
+use Rattle.choices.specs.Choices.{choices}
 use Rattle.signing.specs.Response.{masked}
 use Rattle.checking.specs.Checking.{marks}
 
@@ -31,8 +32,8 @@ abbrev pub scaled : ℤ → List ℤ → List ℤ
 scaled x = map (λ y. x *ℤ y)
 
 -- a sum of polynomials
-abbrev pub plus : List ℤ → List ℤ → List ℤ
-plus = zipWith _+ℤ_
+abbrev pub vectorSum : List ℤ → List ℤ → List ℤ
+vectorSum = zipWith _+ℤ_
 
 -- modulo 2q
 abbrev pub modulo2q : List ℤ → List ℕ
@@ -54,15 +55,15 @@ a₁ a = map (λ x. pos (2 * x)) a
 abbrev pub KeyEquation : Type 0
 KeyEquation =
     (set : ℕ) (f g : List ℤ) (a : List ℕ)
-    → keyTest set f g a ≡ Done
-    → modulo2q (plus (times (a₁ a) f) (scaled (pos (modulus - 2)) (second g))) ≡ modulo2q (scaled (pos modulus) one)
+    → numberOf (keyTest set f g a) ≡ 0
+    → modulo2q (vectorSum (times (a₁ a) f) (scaled (pos (modulus - 2)) (second g))) ≡ modulo2q (scaled (pos modulus) one)
 
 -- Algorithm 2, line 2: u = ζ a₁ y₁ + y₂ modulo 2q
 abbrev pub CommitmentSum : Type 0
 CommitmentSum =
     (a : List ℕ) (y1 y2 : List ℤ)
     → length y2 ≡ dimension
-    → sums a y1 y2 ≡ modulo2q (plus (scaled (pos zeta) (times (a₁ a) y1)) y2)
+    → sums a y1 y2 ≡ modulo2q (vectorSum (scaled (pos zeta) (times (a₁ a) y1)) y2)
 
 -- c: 1 at the listed places and 0 elsewhere
 abbrev pub challenge : List ℕ → List ℤ
@@ -72,7 +73,7 @@ challenge l = tabulate (λ i. cond (listed l i) (pos 1) (pos 0)) dimension
 abbrev pub RebuildSum : Type 0
 RebuildSum =
     (a : List ℕ) (z1 : List ℤ) (l : List ℕ)
-    → sums a z1 (marks l) ≡ modulo2q (plus (scaled (pos zeta) (times (a₁ a) z1)) (scaled (pos (zeta * modulus)) (challenge l)))
+    → sums a z1 (marks l) ≡ modulo2q (vectorSum (scaled (pos zeta) (times (a₁ a) z1)) (scaled (pos (zeta * modulus)) (challenge l)))
 
 -- Algorithm 2, line 6: (z₁, z₂) = (y₁, y₂) + (-1)^b (v₁, v₂)
 abbrev pub minusOneTo : Bool → ℤ
@@ -82,13 +83,13 @@ minusOneTo true = negsuc 0
 abbrev pub SignBit : Type 0
 SignBit =
     (bit : Bool) (y v : Pair)
-    → masked bit y v ≡ pair (plus (y .first) (scaled (minusOneTo bit) (v .first))) (plus (y .second) (scaled (minusOneTo bit) (v .second)))
+    → masked bit y v ≡ pair (vectorSum (y .first) (scaled (minusOneTo bit) (v .first))) (vectorSum (y .second) (scaled (minusOneTo bit) (v .second)))
 
 -- Algorithm 5, lines 1 and 2, not to reject: |(z₁ | 2^d z₂†)|₂ is at most B₂, and its largest entry is at most B∞; the first is asked of the squares
 abbrev pub LengthRules : Type 0
 LengthRules =
     (s : Set) (z1 z2 : List ℤ)
-    → lengthRule s z1 z2 ≡ Done
+    → numberOf (lengthRule s z1 z2) ≡ 0
     ↔ (squares z1 + 4 ^ dOf s * squares z2 ≤ boundSquaredOf s)
     × ((i : ℕ) → natAbs (getD z1 i (pos 0)) ≤ largestOf s)
     × ((i : ℕ) → 2 ^ dOf s * natAbs (getD z2 i (pos 0)) ≤ largestOf s)

@@ -2,29 +2,32 @@
 use mathlib.Core.Path.{_≡_, refl, sym, ap, ap₂, _∙_}
 use mathlib.Core.Bool.{Bool, true}
 use mathlib.Core.List.{List, [], _∷_, _++_}
-use Prim.Native.Nat.{ℕ, zero, suc, _+_, _-_, _<_, _≤_}
+use Prim.Native.Nat.{ℕ, zero, suc, _+_, _-_, _%_, _<_, _≤_}
+use native.Mathlib.Nat.{mod-eq-of-lt}
 use native.Mathlib.Omega.{arith}
 use borrow.Author.Tests.{eq-eqb, eqb-true, le-leb, leb-true}
 use lib.Dec.{eqb, leb, lit<, lit≤}
 use lib.ListN.{length, take, drop, getD}
 use lib.Seq.{take-suc, take-take, getD-take}
+use Rattle.laws.specs.Lists.{same}
 use Rattle.laws.specs.Refusals.{must}
 use Rattle.laws.proofs.Chain.{through}
+use Rattle.laws.proofs.Loops.{is-same}
 use Rattle.sets.specs.declared.Set.{Set}
 use Rattle.sets.specs.declared.Asked.{Asked}
 use Rattle.sets.specs.declared.Asked.the-variants.{Known, Unknown}
-use Rattle.sets.specs.Numbers.{totalOf, numberOf, namedOf}
-use Rattle.sets.proofs.Alike.{each, named-back, named-is}
+use Rattle.sets.specs.Numbers.{headerLength, totalOf, setNumberOf, namedOf}
+use Rattle.sets.proofs.Alike.{number-small, named-back, named-is}
 use Rattle.answers.specs.Outcomes.{forSet}
 use Rattle.record_forms.specs.declared.Header.{Header}
 use Rattle.record_forms.specs.declared.Header.the-variants.{States, Malformed}
 use Rattle.byte_codes.specs.Bytes.{bytesOf}
-use Rattle.record_forms.specs.Headers.{letters, headerOf, part, alike, agree, setFields, fieldsAfter, headerIn}
-use Rattle.record_forms.proofs.Agreement.{alike-same, agree-further}
+use Rattle.record_forms.specs.Headers.{letters, headerOf, part, agree, setFields, fieldsAfter, headerIn}
+use Rattle.record_forms.proofs.Agreement.{agree-further}
 
 pub record Stated (s : Set) (rec : List ℕ) : Type 0 where
   pub total : length rec ≡ totalOf s
-  pub front : take 24 rec ≡ headerOf s
+  pub front : take headerLength rec ≡ headerOf s
 
 -- ---- a chain that states a set passed each test
 passed : {s : Set} (place : ℕ) (next : Header) (test : Bool) → must test (Malformed place) next ≡ States s → (test ≡ true) × (next ≡ States s)
@@ -39,19 +42,23 @@ opens : (s : Set) → take 4 (headerOf s) ≡ letters
 unfolding headerOf
 opens s = refl
 
-number-at-four : (s : Set) → getD (headerOf s) 4 0 ≡ numberOf s
-unfolding headerOf bytesOf
-number-at-four = each _ refl refl refl refl
+-- a set's number is its own byte
+pub number-byte : (s : Set) → setNumberOf s % 256 ≡ setNumberOf s
+number-byte s = mod-eq-of-lt (number-small s)
 
-number-byte : (s : Set) → take 5 (headerOf s) ≡ letters ++ (numberOf s ∷ [])
+number-at-four : (s : Set) → getD (headerOf s) 4 0 ≡ setNumberOf s
 unfolding headerOf bytesOf
-number-byte = each _ refl refl refl refl
+number-at-four = number-byte
 
-pub header-long : (s : Set) → length (headerOf s) ≡ 24
+opens-further : (s : Set) → take 5 (headerOf s) ≡ letters ++ (setNumberOf s ∷ [])
+unfolding headerOf bytesOf
+opens-further s = ap (λ (n : ℕ). letters ++ (n ∷ [])) (number-byte s)
+
+pub header-long : (s : Set) → length (headerOf s) ≡ headerLength
 unfolding headerOf bytesOf
 header-long s = refl
 
-whole : (s : Set) → take 24 (headerOf s) ≡ headerOf s
+whole : (s : Set) → take headerLength (headerOf s) ≡ headerOf s
 unfolding headerOf bytesOf
 whole s = refl
 
@@ -70,7 +77,7 @@ module _ {s : Set} (rec : List ℕ) where
       let (f18, e18) = field 16 18 (headerOf s′) _ (lit≤ tt) f16 e16 in
       let (f20, e18′) = field 18 20 (headerOf s′) _ (lit≤ tt) f18 e18 in
       let (long, e20) = passed 18 _ (eqb (length rec) (totalOf s′)) e18′ in
-      let (f24, e) = field 20 24 (headerOf s′) _ (lit≤ tt) f20 e20 in
+      let (f24, e) = field 20 headerLength (headerOf s′) _ (lit≤ tt) f20 e20 in
       let same : s′ ≡ s = cc in
       record { total = eqb-true _ _ long ∙ ap totalOf same; front = f24 ∙ whole s′ ∙ ap headerOf same }
 
@@ -84,7 +91,7 @@ module _ {s : Set} (rec : List ℕ) where
       let (f14, e14) = field 12 14 (headerOf s′) _ (lit≤ tt) f12 e12 in
       set-fields-stated s′ f14 e14
 
-  named-stated : take 4 rec ≡ letters → 24 ≤ length rec → (a : Asked) → namedOf (getD rec 4 0) ≡ a
+  named-stated : take 4 rec ≡ letters → headerLength ≤ length rec → (a : Asked) → namedOf (getD rec 4 0) ≡ a
       → forSet a (Malformed 4) (λ s′. fieldsAfter s′ (headerOf s′) rec) ≡ States s → Stated s rec
   named-stated f4 h Unknown n e = absurd (never e)
     where
@@ -93,13 +100,13 @@ module _ {s : Set} (rec : List ℕ) where
   named-stated f4 h (Known s′) n e =
       let inside : 4 < length rec = omega arith in
       let f5 : take 5 rec ≡ take 5 (headerOf s′) =
-      take-suc rec 4 0 inside ∙ ap₂ (λ (l : List ℕ) (x : ℕ). l ++ (x ∷ [])) f4 (named-is s′ _ n) ∙ sym (number-byte s′) in
+      take-suc rec 4 0 inside ∙ ap₂ (λ (l : List ℕ) (x : ℕ). l ++ (x ∷ [])) f4 (named-is s′ _ n) ∙ sym (opens-further s′) in
       fields-stated s′ f5 e
 
   pub stated : headerIn rec ≡ States s → Stated s rec
   unfolding headerIn
   stated e =
-      let (long, e0) = passed (length rec) _ (leb 24 (length rec)) e in
+      let (long, e0) = passed (length rec) _ (leb headerLength (length rec)) e in
       let (f4, e4) = field 0 4 letters _ (lit≤ tt) refl e0 in
       named-stated f4 (leb-true _ _ long) _ refl e4
 
@@ -114,24 +121,24 @@ part-take (suc from) count (suc n) [] h = refl
 part-take (suc from) count (suc n) (x ∷ l) h = part-take from count n l (omega arith)
 
 module _ {s : Set} {rec : List ℕ} (so : Stated s rec) where
-  agrees-there : (from to : ℕ) → from ≤ to → to ≤ 24 → agree from to rec (headerOf s) ≡ true
+  agrees-there : (from to : ℕ) → from ≤ to → to ≤ headerLength → agree from to rec (headerOf s) ≡ true
   agrees-there from to h k =
-      let within : from + (to - from) ≤ 24 = omega arith in
-      ap (λ (l : List ℕ). alike l (part from to (headerOf s))) (sym (part-take from (to - from) 24 rec within) ∙ ap (part from to) (so .front))
-      ∙ alike-same (part from to (headerOf s))
+      let within : from + (to - from) ≤ headerLength = omega arith in
+      ap (λ (l : List ℕ). same l (part from to (headerOf s))) (sym (part-take from (to - from) headerLength rec within) ∙ ap (part from to) (so .front))
+      ∙ is-same (part from to (headerOf s))
 
   letters-there : agree 0 4 rec letters ≡ true
   letters-there =
-      ap (λ (l : List ℕ). alike l letters) (sym (take-take 4 24 rec (lit≤ tt)) ∙ ap (take 4) (so .front) ∙ opens s) ∙ alike-same letters
+      ap (λ (l : List ℕ). same l letters) (sym (take-take 4 headerLength rec (lit≤ tt)) ∙ ap (take 4) (so .front) ∙ opens s) ∙ is-same letters
 
   named-there : namedOf (getD rec 4 0) ≡ Known s
   named-there =
-      ap namedOf (sym (getD-take 24 rec 4 0 (lit< tt)) ∙ ap (λ (l : List ℕ). getD l 4 0) (so .front) ∙ number-at-four s) ∙ named-back s
+      ap namedOf (sym (getD-take headerLength rec 4 0 (lit< tt)) ∙ ap (λ (l : List ℕ). getD l 4 0) (so .front) ∙ number-at-four s) ∙ named-back s
 
   pub states-back : headerIn rec ≡ States s
   unfolding headerIn fieldsAfter setFields
   states-back =
-      let long : 24 ≤ length rec = omega (arith, so .total) in
+      let long : headerLength ≤ length rec = omega (arith, so .total) in
       rw (
         le-leb _ _ long,
         letters-there,
@@ -145,5 +152,5 @@ module _ {s : Set} {rec : List ℕ} (so : Stated s rec) where
         agrees-there 16 18 (lit≤ tt) (lit≤ tt),
         agrees-there 18 20 (lit≤ tt) (lit≤ tt),
         eq-eqb _ _ (so .total),
-        agrees-there 20 24 (lit≤ tt) (lit≤ tt),
+        agrees-there 20 headerLength (lit≤ tt) (lit≤ tt),
       )

@@ -4,9 +4,10 @@ use mathlib.Core.List.{List, [], _∷_, _++_}
 use Prim.Native.Nat.{ℕ, _-_}
 use lib.Dec.{eqb, leb}
 use lib.ListN.{length, take, drop, getD}
+use Rattle.laws.specs.Lists.{same}
 use Rattle.laws.specs.Refusals.{must}
 use Rattle.sets.specs.declared.Set.{Set}
-use Rattle.sets.specs.Numbers.{dimension, kappaOf, totalOf, numberOf, namedOf}
+use Rattle.sets.specs.Numbers.{dimension, headerLength, z1Offset, z2Offset, listOffset, kappaOf, totalOf, setNumberOf, namedOf}
 use Rattle.answers.specs.Outcomes.{forSet}
 use Rattle.record_forms.specs.declared.Header.{Header}
 use Rattle.record_forms.specs.declared.Header.the-variants.{States, Malformed}
@@ -16,23 +17,11 @@ use Rattle.byte_codes.specs.Bytes.{bytesOf}
 abbrev pub letters : List ℕ
 letters = 66 ∷ 76 ∷ 66 ∷ 49 ∷ []
 
--- where z1 starts, and the bytes of a header
-abbrev pub z1Offset : ℕ
-z1Offset = 24
-
--- where z2 dagger starts
-abbrev pub z2Offset : ℕ
-z2Offset = 1048
-
--- where the list starts
-abbrev pub listOffset : ℕ
-listOffset = 1560
-
 -- the table, row by row: bytes 0-3; 4, 5; 6-7, 8-9; 10-11, 12-13; 14-15, 16-17; 18-19; 20-23
 unfoldable pub headerOf : Set → List ℕ
 headerOf s =
     letters
-    ++ (bytesOf 1 (numberOf s) ++ bytesOf 1 0)
+    ++ (bytesOf 1 (setNumberOf s) ++ bytesOf 1 0)
     ++ (bytesOf 2 dimension ++ bytesOf 2 z1Offset)
     ++ (bytesOf 2 dimension ++ bytesOf 2 z2Offset)
     ++ (bytesOf 2 (kappaOf s) ++ bytesOf 2 listOffset)
@@ -45,16 +34,9 @@ headerOf s =
 abbrev pub part : ℕ → ℕ → List ℕ → List ℕ
 part from to bytes = take (to - from) (drop from bytes)
 
--- whether two byte strings are the same
-unfoldable pub alike : List ℕ → List ℕ → Bool
-alike [] [] = true
-alike [] (y ∷ ys) = false
-alike (x ∷ xs) [] = false
-alike (x ∷ xs) (y ∷ ys) = eqb x y && alike xs ys
-
 -- whether two byte strings agree from one place up to another
 abbrev pub agree : ℕ → ℕ → List ℕ → List ℕ → Bool
-agree from to a b = alike (part from to a) (part from to b)
+agree from to a b = same (part from to a) (part from to b)
 
 -- the fields whose content goes by the set: the list's count and offset, the total, which is also the slice's length, and the zeros after it
 unfoldable pub setFields : Set → List ℕ → List ℕ → Header
@@ -63,7 +45,7 @@ setFields s header rec =
     (must (agree 16 18 rec header) (Malformed 16)
     (must (agree 18 20 rec header) (Malformed 18)
     (must (eqb (length rec) (totalOf s)) (Malformed 18)
-    (must (agree 20 24 rec header) (Malformed 20)
+    (must (agree 20 headerLength rec header) (Malformed 20)
     (States s)))))
 
 -- the fields after the set's, each by itself against the header of that set
@@ -76,10 +58,10 @@ fieldsAfter s header rec =
     (must (agree 12 14 rec header) (Malformed 12)
     (setFields s header rec)))))
 
--- the set that a record's header states, or the first byte of the first wrong field; shorter than 24, its length
+-- the set that a record's header states, or the first byte of the first wrong field; shorter than a header, its length
 unfoldable pub headerIn : List ℕ → Header
 headerIn rec =
-    must (leb 24 (length rec)) (Malformed (length rec))
+    must (leb headerLength (length rec)) (Malformed (length rec))
     (must (agree 0 4 rec letters) (Malformed 0)
     (forSet (namedOf (getD rec 4 0)) (Malformed 4)
     (λ s. fieldsAfter s (headerOf s) rec)))

@@ -2,10 +2,11 @@
 use mathlib.Core.List.{List}
 use Prim.Native.Nat.{ℕ, _+_}
 use lib.ListN.{length}
+use Rattle.sets.specs.Numbers.{z1Offset, z2Offset, listOffset}
 use Rattle.answers.specs.declared.Outcome.{Outcome}
 use Rattle.answers.specs.declared.Outcome.the-variants.{Done, HeaderMalformed}
 use Rattle.answers.specs.Outcomes.{numberOf, placeOf}
-use Rattle.record_forms.specs.Headers.{z1Offset, z2Offset, listOffset, part, headerIn, opened}
+use Rattle.record_forms.specs.Headers.{part, headerIn, opened}
 
 -- what a section call leaves behind: where the part lies, as block and offset, its bytes, and the number and the place in the lent numbers
 pub data Fetched : Type 0 where

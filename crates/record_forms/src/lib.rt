@@ -4,23 +4,21 @@ mod sections;
 ghost use mathlib.Core.Path.{_≡_};
 ghost use Prim.Native.Nat.{_≤_};
 ghost use lib.ListN.{length};
+ghost use Rattle.sets.specs.Numbers.{headerLength};
 ghost use Rattle.record_forms.specs.Headers.{headerOf, agree, setFields, fieldsAfter, headerIn};
 use byte_codes::put_number;
 pub use sections::list_section;
 pub use sections::z1_section;
 pub use sections::z2_section;
 use sets::Asked;
+pub use sets::HEADER_LENGTH;
+pub use sets::LIST_OFFSET;
 use sets::Set;
+pub use sets::Z1_OFFSET;
+pub use sets::Z2_OFFSET;
 
 // The four letters that open every record.
 pub const LETTERS: [u8; 4] = *b"BLB1";
-
-// Where z1, z2 dagger and the list start.
-pub const Z1_OFFSET: usize = 24;
-
-pub const Z2_OFFSET: usize = 1048;
-
-pub const LIST_OFFSET: usize = 1560;
 
 // What a record's header says: its set, or the first byte of the first wrong field.
 pub enum Header {
@@ -31,7 +29,7 @@ pub enum Header {
 pub fn header_in(rec: &[u8]) -> Header
     ensures { λ r. ⌜ r ≡ headerIn (now (rec .entry)) ⌝ }
 {
-    if rec.len() < 24 {
+    if rec.len() < HEADER_LENGTH {
         return Header::Malformed(rec.len() as u32);
     }
     if !agrees(0, 4, rec, &LETTERS) {
@@ -44,7 +42,7 @@ pub fn header_in(rec: &[u8]) -> Header
 }
 
 fn fields_after(s: Set, header: &[u8], rec: &[u8]) -> Header
-    requires { ⌜ (length (now header) ≡ 24) × (24 ≤ length (now rec)) ⌝ }
+    requires { ⌜ (length (now header) ≡ headerLength) × (headerLength ≤ length (now rec)) ⌝ }
     ensures { λ r. ⌜ r ≡ fieldsAfter s (now (header .entry)) (now (rec .entry)) ⌝ }
 {
     if !agrees(5, 6, rec, header) {
@@ -66,7 +64,7 @@ fn fields_after(s: Set, header: &[u8], rec: &[u8]) -> Header
 }
 
 fn set_fields(s: Set, header: &[u8], rec: &[u8]) -> Header
-    requires { ⌜ (length (now header) ≡ 24) × (24 ≤ length (now rec)) ⌝ }
+    requires { ⌜ (length (now header) ≡ headerLength) × (headerLength ≤ length (now rec)) ⌝ }
     ensures { λ r. ⌜ r ≡ setFields s (now (header .entry)) (now (rec .entry)) ⌝ }
 {
     if !agrees(14, 16, rec, header) {
@@ -81,7 +79,7 @@ fn set_fields(s: Set, header: &[u8], rec: &[u8]) -> Header
     if rec.len() != s.total() {
         return Header::Malformed(18);
     }
-    if !agrees(20, 24, rec, header) {
+    if !agrees(20, HEADER_LENGTH, rec, header) {
         return Header::Malformed(20);
     }
     Header::States(s)
@@ -103,10 +101,10 @@ fn agrees(from: usize, to: usize, a: &[u8], b: &[u8]) -> bool
 }
 
 // The header of a set's records.
-pub fn header_of(s: Set) -> [u8; 24]
+pub fn header_of(s: Set) -> [u8; HEADER_LENGTH]
     ensures { λ r. ⌜ r ≡ headerOf s ⌝ }
 {
-    let mut header = [0u8; 24];
+    let mut header = [0u8; HEADER_LENGTH];
     header[0] = LETTERS[0];
     header[1] = LETTERS[1];
     header[2] = LETTERS[2];

@@ -8,11 +8,10 @@ use native.Mathlib.Omega.{arith}
 use lib.Dec.{lit<, lit≤}
 use lib.IntN.{ℤ, pos, natAbs}
 use lib.ListN.{length, take, drop, getD, length-append, length-drop}
-use lib.Pow.{pow-mono}
 use lib.Seq.{take-at, take-all, drop-at, getD-drop, length-take-le}
 use Rattle.sets.specs.declared.Set.{Set}
-use Rattle.sets.specs.Numbers.{dimension, kappaOf, totalOf}
-use Rattle.sets.proofs.Alike.{d-positive, largest-small}
+use Rattle.sets.specs.Numbers.{dimension, z1Offset, z2Offset, listOffset, kappaOf, totalOf}
+use Rattle.sets.proofs.Alike.{step-at-least-256, largest-small}
 use Rattle.answers.specs.declared.Outcome.the-variants.{Done, ImproperList}
 use Rattle.answers.specs.Outcomes.{isDone}
 use Rattle.answers.proofs.Calls.{done-is, done-next}
@@ -20,8 +19,8 @@ use Rattle.vectors.specs.Places.{properList}
 use Rattle.vectors.proofs.Rising.{proper-place}
 use Rattle.limits.specs.LengthRule.{lengthRule}
 use Rattle.limits.proofs.Rule.{first-within, second-within}
-use Rattle.byte_codes.specs.Bytes.{unpacked, signed}
-use Rattle.record_forms.specs.Headers.{z1Offset, z2Offset, listOffset, headerOf, part}
+use Rattle.byte_codes.specs.Bytes.{unpacked, fromComplement}
+use Rattle.record_forms.specs.Headers.{headerOf, part}
 use Rattle.byte_codes.proofs.Sections.{unpacked-packed, packed-unpacked, take-small}
 use Rattle.byte_codes.proofs.WholeNumbers.{numbers-back, bytes-back}
 use Rattle.record_forms.proofs.Agreement.{take-further}
@@ -79,7 +78,7 @@ module _ (g : Signature) (so : Sized g) where
 
     z2-small : (k : ℕ) → 2 * natAbs (getD (g .z2) k (pos 0)) < 2 ^ 8
     z2-small k =
-        omega (arith, second-within (g .set) (g .z1) (g .z2) rule k, largest-small (g .set), mul-le-mul (pow-mono (d-positive (g .set))) (le-refl (natAbs (getD (g .z2) k (pos 0)))))
+        omega (arith, second-within (g .set) (g .z1) (g .z2) rule k, largest-small (g .set), mul-le-mul (step-at-least-256 (g .set)) (le-refl (natAbs (getD (g .z2) k (pos 0)))))
 
     list-small : (k : ℕ) → getD (g .list) k 0 < 256 ^ 2
     list-small = anywhere (g .list) (256 ^ 2) (lit< tt) (λ k h. omega (arith, proper-place (g .set) (g .list) (refusal-proper g kept) k h))
@@ -87,8 +86,8 @@ module _ (g : Signature) (so : Sized g) where
     pub signature-back : signatureIn (g .set) (recordOf g) ≡ g
     signature-back =
         parts
-        (ap (λ (l : List ℕ). map (signed 16) (unpacked 2 dimension l)) z1-part ∙ numbers-back 16 2 refl (g .z1) dimension (so .z1-long) z1-small)
-        (ap (λ (l : List ℕ). map (signed 8) (unpacked 1 dimension l)) z2-part ∙ numbers-back 8 1 refl (g .z2) dimension (so .z2-long) z2-small)
+        (ap (λ (l : List ℕ). map (fromComplement 16) (unpacked 2 dimension l)) z1-part ∙ numbers-back 16 2 refl (g .z1) dimension (so .z1-long) z1-small)
+        (ap (λ (l : List ℕ). map (fromComplement 8) (unpacked 1 dimension l)) z2-part ∙ numbers-back 8 1 refl (g .z2) dimension (so .z2-long) z2-small)
         (ap (unpacked 2 (kappaOf (g .set))) list-part ∙ ap (λ (n : ℕ). unpacked 2 n (listBytes g)) (sym (so .list-long)) ∙ unpacked-packed 2 (g .list) list-small)
       where
         parts : {z1 z2 : List ℤ} {list : List ℕ} → z1 ≡ g .z1 → z2 ≡ g .z2 → list ≡ g .list → signature (g .set) z1 z2 list ≡ g

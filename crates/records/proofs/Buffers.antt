@@ -9,11 +9,11 @@ use lib.IntN.{ℤ}
 use lib.ListN.{length, take, drop, length-drop}
 use lib.Seq.{take-at, length-take-le}
 use Rattle.sets.specs.declared.Set.{Set}
-use Rattle.sets.specs.Numbers.{kappaOf, totalOf, listLimit}
+use Rattle.sets.specs.Numbers.{listLimit, listOffset, kappaOf, totalOf}
 use Rattle.sets.proofs.Alike.{kappa-within}
 use Rattle.answers.specs.declared.Outcome.{Outcome}
 use Rattle.answers.specs.declared.Outcome.the-variants.{ImproperList}
-use Rattle.answers.specs.Outcomes.{isDone}
+use Rattle.answers.specs.Outcomes.{isDone, filled}
 use Rattle.answers.proofs.Calls.{done-test}
 use Rattle.vectors.specs.Places.{properList}
 use Rattle.vectors.proofs.Rising.{proper-count}
@@ -21,11 +21,10 @@ use Rattle.limits.specs.LengthRule.{lengthRule}
 use Rattle.record_forms.specs.declared.Header.{Header}
 use Rattle.record_forms.specs.declared.Header.the-variants.{States}
 use Rattle.byte_codes.specs.Bytes.{unpacked}
-use Rattle.record_forms.specs.Headers.{listOffset, part, headerIn}
+use Rattle.record_forms.specs.Headers.{part, headerIn}
 use Rattle.byte_codes.proofs.Sections.{length-unpacked}
 use Rattle.record_forms.proofs.Stated.{stated}
 use Rattle.records.specs.Signatures.{Signature, signature, signatureIn, refusalOf}
-use Rattle.records.specs.Writer.{written}
 use Rattle.records.specs.Reader.{found}
 
 -- ---- lengths
@@ -81,7 +80,7 @@ pub entries-read : {A : Type 0} (f : ℕ → A) (width count count′ : ℕ) (by
 entries-read f width count count′ bytes now e h = cc
 
 -- ---- answers
-pub written-at : (o : Outcome) (out out′ : List ℕ) → out ≡ out′ → written o out ≡ written o out′
+pub written-at : (o : Outcome) (out out′ : List ℕ) → out ≡ out′ → filled o out ≡ filled o out′
 written-at o out out′ e = cc
 
 pub refused-at : (o o′ : Outcome) (set : ℕ) (z1 z2 : List ℤ) (list : List ℕ) → (o ≡ o′) × (set ≡ 0) → found o set z1 z2 list ≡ found o′ 0 z1 z2 list

@@ -6,14 +6,15 @@ use contract.Lifetimes.{Lfts}
 use denote.Ref.{now}
 use lib.IntN.{ℤ}
 use Rattle.answers.specs.declared.Outcome.{Outcome}
-use Rattle.records.specs.Writer.{Written, written}
+use Rattle.answers.specs.Outcomes.{Filled, filled}
+use Rattle.answers.proofs.Slots.{write-out, read-z1, read-z2, read-list}
 use Rattle.records.specs.Reader.{Found, found}
 use Rattle.records.proofs.write.Reads as write
 use Rattle.records.proofs.read.Reads as read
 
 -- what a call leaves behind is all in one value
-one-written : {o o′ : Outcome} {l l′ : List ℕ} (w : Written) → written o l ≡ w → written o′ l′ ≡ w → (o ≡ o′) × (l ≡ l′)
-one-written w p q = (cc, cc)
+one-filled : {o o′ : Outcome} {l l′ : List ℕ} (w : Filled) → filled o l ≡ w → filled o′ l′ ≡ w → (o ≡ o′) × (l ≡ l′)
+one-filled w p q = (cc, cc)
 
 one-found : {o o′ : Outcome} {n n′ : ℕ} {x x′ y y′ : List ℤ} {l l′ : List ℕ} (w : Found) → found o n x y l ≡ w → found o′ n′ x′ y′ l′ ≡ w
     → (o ≡ o′) × (n ≡ n′) × (x ≡ x′) × (y ≡ y′) × (l ≡ l′)
@@ -21,10 +22,10 @@ one-found w p q = (cc, cc, cc, cc, cc)
 
 -- the outcome and the output
 pub write-determined : (κs : Lfts 4) (a : _) (r r′ : _) (s s′ : _) → write.Post κs a r s → write.Post κs a r′ s′
-    → (r ≡ r′) × (now (s .1 .1 .1 .1 .0) ≡ now (s′ .1 .1 .1 .1 .0))
-write-determined κs a r r′ s s′ p q = one-written _ p q
+    → (r ≡ r′) × (now (write-out s) ≡ now (write-out s′))
+write-determined κs a r r′ s s′ p q = one-filled _ p q
 
 -- the outcome, the set and the three buffers
 pub read-determined : (κs : Lfts 4) (a : _) (r r′ : _) (s s′ : _) → read.Post κs a r s → read.Post κs a r′ s′
-    → (r .outcome ≡ r′ .outcome) × (r .set ≡ r′ .set) × (now (s .1 .0) ≡ now (s′ .1 .0)) × (now (s .1 .1 .0) ≡ now (s′ .1 .1 .0)) × (now (s .1 .1 .1 .0) ≡ now (s′ .1 .1 .1 .0))
+    → (r .outcome ≡ r′ .outcome) × (r .set ≡ r′ .set) × (now (read-z1 s) ≡ now (read-z1 s′)) × (now (read-z2 s) ≡ now (read-z2 s′)) × (now (read-list s) ≡ now (read-list s′))
 read-determined κs a r r′ s s′ p q = one-found _ p q

@@ -6,9 +6,9 @@ use native.Mathlib.Omega.{arith}
 use borrow.Rule.Slice.PartMut.{putMid, post-is}
 use lib.ListN.{length, drop, length-append, length-map}
 use lib.Seq.{take-at, drop-at}
-use Rattle.sets.specs.Numbers.{dimension, kappaOf, totalOf}
+use Rattle.sets.specs.Numbers.{dimension, z1Offset, z2Offset, listOffset, kappaOf, totalOf}
 use Rattle.byte_codes.specs.Bytes.{packed, complement}
-use Rattle.record_forms.specs.Headers.{z1Offset, z2Offset, listOffset, headerOf}
+use Rattle.record_forms.specs.Headers.{headerOf}
 use Rattle.byte_codes.proofs.Sections.{length-packed}
 use Rattle.record_forms.proofs.Stated.{header-long}
 use Rattle.records.specs.Signatures.{Signature, z1Bytes, z2Bytes, listBytes, recordOf}

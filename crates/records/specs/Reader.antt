@@ -6,10 +6,11 @@ use lib.IntN.{ℤ}
 use lib.ListN.{length, drop}
 use Rattle.laws.specs.Refusals.{must}
 use Rattle.sets.specs.declared.Set.{Set}
-use Rattle.sets.specs.Numbers.{dimension, listLimit, kappaOf, numberOf}
+use Rattle.sets.specs.Numbers.{listLimit, kappaOf, setNumberOf}
 use Rattle.answers.specs.declared.Outcome.{Outcome}
 use Rattle.answers.specs.declared.Outcome.the-variants.{Done, WrongLength, HeaderMalformed}
 use Rattle.answers.specs.Outcomes.{unless}
+use Rattle.vectors.specs.Vectors.{sized}
 use Rattle.record_forms.specs.Headers.{headerIn, opened}
 use Rattle.records.specs.Signatures.{signatureIn, refusalOf}
 
@@ -21,13 +22,13 @@ pub data Found : Type 0 where
 unfoldable pub readingFor : Set → List ℕ → List ℤ → List ℤ → List ℕ → Found
 readingFor s rec z1 z2 list =
     unless (refusalOf (signatureIn s rec)) (λ o. found o 0 z1 z2 list)
-    (found Done (numberOf s) (signatureIn s rec .z1) (signatureIn s rec .z2) (signatureIn s rec .list ++ drop (kappaOf s) list))
+    (found Done (setNumberOf s) (signatureIn s rec .z1) (signatureIn s rec .z2) (signatureIn s rec .list ++ drop (kappaOf s) list))
 
 -- the lengths of the buffers, then the header
 unfoldable pub readingOf : List ℕ → List ℤ → List ℤ → List ℕ → Found
 readingOf rec z1 z2 list =
-    must (eqb (length z1) dimension) (found WrongLength 0 z1 z2 list)
-    (must (eqb (length z2) dimension) (found WrongLength 0 z1 z2 list)
+    must (sized z1) (found WrongLength 0 z1 z2 list)
+    (must (sized z2) (found WrongLength 0 z1 z2 list)
     (must (eqb (length list) listLimit) (found WrongLength 0 z1 z2 list)
     (opened (headerIn rec) (λ place. found (HeaderMalformed place) 0 z1 z2 list)
     (λ s. readingFor s rec z1 z2 list))))

@@ -4,13 +4,13 @@ use Prim.Native.Nat.{ℕ}
 use lib.IntN.{ℤ}
 use Rattle.laws.specs.Refusals.{must}
 use Rattle.sets.specs.declared.Set.{Set}
-use Rattle.sets.specs.Numbers.{dimension, kappaOf, totalOf}
+use Rattle.sets.specs.Numbers.{dimension, z1Offset, z2Offset, listOffset, kappaOf, totalOf}
 use Rattle.answers.specs.declared.Outcome.{Outcome}
 use Rattle.answers.specs.declared.Outcome.the-variants.{ImproperList}
 use Rattle.vectors.specs.Places.{properList}
 use Rattle.limits.specs.LengthRule.{lengthRule}
-use Rattle.byte_codes.specs.Bytes.{packed, unpacked, complement, signed}
-use Rattle.record_forms.specs.Headers.{z1Offset, z2Offset, listOffset, headerOf, part}
+use Rattle.byte_codes.specs.Bytes.{packed, unpacked, complement, fromComplement}
+use Rattle.record_forms.specs.Headers.{headerOf, part}
 
 -- z2 is z2 dagger
 pub record Signature : Type 0 where
@@ -39,8 +39,8 @@ recordOf g = headerOf (g .set) ++ z1Bytes g ++ z2Bytes g ++ listBytes g
 abbrev pub signatureIn : Set → List ℕ → Signature
 signatureIn s rec =
     signature s
-    (map (signed 16) (unpacked 2 dimension (part z1Offset z2Offset rec)))
-    (map (signed 8) (unpacked 1 dimension (part z2Offset listOffset rec)))
+    (map (fromComplement 16) (unpacked 2 dimension (part z1Offset z2Offset rec)))
+    (map (fromComplement 8) (unpacked 1 dimension (part z2Offset listOffset rec)))
     (unpacked 2 (kappaOf s) (part listOffset (totalOf s) rec))
 
 -- what a signature is refused for, whichever way it came: 5, 10, 11

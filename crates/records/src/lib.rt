@@ -6,7 +6,8 @@ ghost use Prim.Native.Nat.{_≤_};
 ghost use lib.ListN.{length, drop};
 ghost use Rattle.sets.specs.Numbers.{dimension, listLimit, kappaOf, totalOf};
 ghost use Rattle.records.specs.Signatures.{signature, recordOf, signatureIn, refusalOf};
-ghost use Rattle.records.specs.Writer.{written, writingFor, writingOf};
+ghost use Rattle.answers.specs.Outcomes.{filled};
+ghost use Rattle.records.specs.Writer.{writingFor, writingOf};
 ghost use Rattle.records.specs.Reader.{found, readingFor, readingOf};
 use answers::Outcome;
 use record_forms::Header;
@@ -29,7 +30,7 @@ pub struct Reading {
 
 // Writes the record of a signature to the front of the output.
 pub fn write(set: u32, z1: &[i16], z2: &[i8], list: &[u16], out: &mut [u8]) -> Outcome
-    ensures { λ r. ⌜ written r (now (out .exit)) ≡ writingOf set (now (z1 .entry)) (now (z2 .entry)) (now (list .entry)) (now (out .entry)) ⌝ }
+    ensures { λ r. ⌜ filled r (now (out .exit)) ≡ writingOf set (now (z1 .entry)) (now (z2 .entry)) (now (list .entry)) (now (out .entry)) ⌝ }
 {
     match Set::asked(set) {
         Asked::Unknown => Outcome::UnknownSet,
@@ -38,7 +39,7 @@ pub fn write(set: u32, z1: &[i16], z2: &[i8], list: &[u16], out: &mut [u8]) -> O
 }
 
 fn write_for(s: Set, z1: &[i16], z2: &[i8], list: &[u16], out: &mut [u8]) -> Outcome
-    ensures { λ r. ⌜ written r (now (out .exit)) ≡ writingFor (signature s (now (z1 .entry)) (now (z2 .entry)) (now (list .entry))) (now (out .entry)) ⌝ }
+    ensures { λ r. ⌜ filled r (now (out .exit)) ≡ writingFor (signature s (now (z1 .entry)) (now (z2 .entry)) (now (list .entry))) (now (out .entry)) ⌝ }
 {
     if z1.len() != Set::DIMENSION {
         return Outcome::WrongLength;

@@ -3,10 +3,9 @@ ghost use mathlib.Core.Path.{_≡_};
 ghost use Prim.Native.Nat.{_≤_};
 ghost use lib.ListN.{length};
 use crate::tally;
-use vector_calls::answers;
-use vector_calls::answers::Asked;
-use vector_calls::calls;
-use vector_calls::slots;
+use vector_slots::slots;
+use vector_slots::wanted;
+use vector_slots::wanted::Asked;
 
 // What an entry's head says.
 struct Head {
@@ -21,14 +20,16 @@ struct Head {
 pub fn replay(fd: i32) {
     let mut memory = [0u8; slots::BYTES];
     let mut counts = [0u32; tally::COUNTS];
+    let mut said = [0u32; 4];
     let mut left = stated(fd);
     while 0 < left {
-        if !entry(fd, &mut memory, &mut counts) {
+        if !entry(fd, &mut memory, &mut counts, &mut said) {
             tally::text(b"the file is not as its format says\n");
             return;
         }
         left -= 1;
     }
+    tally::checker(&said);
     tally::print(&counts);
 }
 
@@ -62,7 +63,7 @@ fn opens(bytes: &[u8]) -> bool
 }
 
 // One entry: a load, a patch or a call. False where it is none.
-fn entry(fd: i32, memory: &mut [u8], counts: &mut [u32]) -> bool
+fn entry(fd: i32, memory: &mut [u8], counts: &mut [u32], said: &mut [u32]) -> bool
     requires { ⌜ (length (now memory) ≡ 36864) × (length (now counts) ≡ 176) ⌝ }
 {
     let mut bytes = [0u8; 8];
@@ -78,7 +79,7 @@ fn entry(fd: i32, memory: &mut [u8], counts: &mut [u32]) -> bool
         count: byte_codes::number_at(&bytes, 6),
     };
     if h.what == 3 {
-        return called(fd, h.which, memory, counts);
+        return called(fd, h.which, memory, counts, said);
     }
     load(fd, h, memory)
 }
@@ -130,7 +131,7 @@ fn scaled(width: u8, count: u16) -> usize
     524280
 }
 
-fn called(fd: i32, which: u8, memory: &[u8], counts: &mut [u32]) -> bool
+fn called(fd: i32, which: u8, memory: &[u8], counts: &mut [u32], said: &mut [u32]) -> bool
     requires { ⌜ (length (now memory) ≡ 36864) × (length (now counts) ≡ 176) ⌝ }
 {
     let mut bytes = [0u8; 26];
@@ -138,8 +139,8 @@ fn called(fd: i32, which: u8, memory: &[u8], counts: &mut [u32]) -> bool
     if got != 26 {
         return false;
     }
-    let k = answers::asked_in(&bytes);
-    if calls::call(memory, which, k) {
+    let k = wanted::asked_in(&bytes);
+    if vector_calls::call(memory, which, k, said) {
         count(which, k.number, counts);
     } else {
         missed(which, k, counts);

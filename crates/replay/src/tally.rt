@@ -25,6 +25,30 @@ pub fn print(counts: &[u32])
     text(b" failed\n");
 }
 
+// What the checker says of the signatures that are given out to buffers of 512 entries: the responses that were refused for a buffer's length alone are among them.
+pub fn checker(said: &[u32])
+    requires { ⌜ length (now said) ≡ 4 ⌝ }
+{
+    verdict(
+        b"given out, the record as it was sent; accepted: yes ",
+        said[0],
+        said[1],
+    );
+    verdict(
+        b"the same, the first byte of z1 more by 1; accepted: yes ",
+        said[2],
+        said[3],
+    );
+}
+
+fn verdict(label: &[u8], yes: u32, no: u32) {
+    text(label);
+    number(yes as u64);
+    text(b", no ");
+    number(no as u64);
+    text(b"\n");
+}
+
 fn line(at: usize, count: u32) -> u64 {
     if 0 < count {
         text(b"call ");

@@ -108,12 +108,13 @@ unfolding power mul
 power-add zero j = ap power (N.zero-add j) ∙ sym (one-mul (power j) (power-le j))
 power-add (suc i) j = ap power (N.suc-add i j) ∙ ap (mul 49) (power-add i j) ∙ sym (mul-assoc 49 (power i) (power j))
 
-pub power-512 : power 512 ≡ 12288
+-- 01, "Ring arithmetic": entry 3 of the table is 7048 and entry 512 is 12288
+pub power-points : (power 3 ≡ 7048) × (power 512 ≡ 12288)
 unfolding power
-power-512 = refl
+power-points = (refl, refl)
 
 pub power-opposite : (i : ℕ) → power (i + 512) ≡ mul 12288 (power i)
-power-opposite i = power-add i 512 ∙ ap (mul (power i)) power-512 ∙ mul-comm (power i) 12288
+power-opposite i = power-add i 512 ∙ ap (mul (power i)) (power-points .1) ∙ mul-comm (power i) 12288
 
 -- n numbers from x on, each 49 times the one before: the table is tested against these, in as many steps as it has entries
 unfoldable pub onward : ℕ → ℕ → List ℕ

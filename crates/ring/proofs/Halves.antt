@@ -4,7 +4,7 @@ use mathlib.Core.Path.{_≡_, refl, ap, ap₂, sym, _∙_}
 use mathlib.Core.List.{List, _++_, append-nil}
 use Prim.Native.Nat.{ℕ, _+_, _-_, _<_, _≤_}
 use native.Mathlib.Omega.{arith}
-use lib.ListN.{length, take, drop, set, getD, length-append, length-set, length-drop, drop-of-length-le, take-append-drop}
+use lib.ListN.{length, take, drop, set as update, getD, length-append, length-set, length-drop, drop-of-length-le, take-append-drop}
 use lib.Seq.{getD-take, getD-drop, length-take-le, take-all, take-at, drop-at, take-set-le, take-set-lt, drop-set-add, drop-set-lt}
 use borrow.Rule.Slice.PartMut.{putMid}
 use Rattle.laws.specs.Lists.{zipWith}
@@ -68,13 +68,13 @@ module _ (f g : ℕ → ℕ → ℕ) (h : ℕ) (l : List ℕ) (two : length l �
         ∙ sym (getD-zipWith k (take h l) (drop h l) i 0 0 0 (omega (arith, first-long)) (omega (arith, second-long)))
 
     pub more : i < h → (x y : ℕ) → x ≡ f (getD now i 0) (getD now (h + i) 0) → y ≡ g (getD now i 0) (getD now (h + i) 0)
-        → Passed f g h l (i + 1) (set (set now i x) (h + i) y)
+        → Passed f g h l (i + 1) (update (update now i x) (h + i) y)
     more p x y ex ey =
         record {
-          long = length-set (set now i x) (h + i) y ∙ length-set now i x ∙ so .long;
-          first = rw (take-set-le h (set now i x) (h + i) y (omega arith), take-set-lt h now i x p)
+          long = length-set (update now i x) (h + i) y ∙ length-set now i x ∙ so .long;
+          first = rw (take-set-le h (update now i x) (h + i) y (omega arith), take-set-lt h now i x p)
               (L.more (take h l) (made f h l) as-first (so .first) 0 x (omega (arith, first-long)) (ex ∙ made-at f p));
-          second = rw (drop-set-add h (set now i x) i y, drop-set-lt h now i x p)
+          second = rw (drop-set-add h (update now i x) i y, drop-set-lt h now i x p)
               (L.more (drop h l) (made g h l) as-second (so .second) 0 y (omega (arith, second-long)) (ey ∙ made-at g p));
         }
 
@@ -84,7 +84,13 @@ module _ (f g : ℕ → ℕ → ℕ) (h : ℕ) (l : List ℕ) (two : length l �
         ∙ ap₂ _++_ (L.finish (take h l) (made f h l) as-first (so .first) (omega (arith, first-long)))
         (L.finish (drop h l) (made g h l) as-second (so .second) (omega (arith, second-long)))
 
--- ---- the halves of s, lent one after the other, come back as m and n
+-- ---- halves that are lent
+
+-- the second half of a vector that is read, as it is lent
+pub rest-lent : (h : ℕ) (l : List ℕ) → take (length l - h) (drop h l) ≡ drop h l
+rest-lent h l = take-all (length l - h) (drop h l) (omega (arith, length-drop h l))
+
+-- the halves of s, lent one after the other, come back as m and n
 module _ (h : ℕ) (s m : List ℕ) (two : length s ≡ h + h) (lm : length m ≡ length (take h s)) where
   as-long : length m ≡ h
   as-long = lm ∙ length-take-le h s (omega arith)
@@ -97,9 +103,7 @@ module _ (h : ℕ) (s m : List ℕ) (two : length s ≡ h + h) (lm : length m �
 
   -- the second half, as it is lent
   pub second-half : take (length (m ++ drop h s) - h) (drop h (m ++ drop h s)) ≡ drop h s
-  second-half =
-      let e = drop-at m (drop h s) h as-long in
-      take-all (length (m ++ drop h s) - h) (drop h (m ++ drop h s)) (omega (arith, still-two, length-drop h (m ++ drop h s))) ∙ e
+  second-half = rest-lent h (m ++ drop h s) ∙ drop-at m (drop h s) h as-long
 
   module _ (n : List ℕ) (ln : length n ≡ length (take (length (m ++ drop h s) - h) (drop h (m ++ drop h s)))) where
     -- the whole, once both are back

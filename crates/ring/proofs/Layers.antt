@@ -8,8 +8,9 @@ use native.Mathlib.Omega.{arith}
 use lib.ListN.{length, take, drop, getD}
 use lib.Seq.{take-at, drop-at}
 use Rattle.laws.proofs.Entries.{length-tabulate, getD-tabulate}
+use Rattle.sets.specs.Numbers.{modulus}
 use Rattle.ring.specs.Powers.{power, Powers}
-use Rattle.ring.specs.Transform.{Within, low, high, size, remainders, joined, convolution, productModulo}
+use Rattle.ring.specs.Transform.{Within, low, high, size, remainders, joined, convolution}
 use Rattle.ring.proofs.Products.{length-low}
 use Rattle.ring.proofs.Spectra.{within-low, within-high}
 use Rattle.ring.proofs.Field.{power-le}
@@ -24,7 +25,7 @@ pub power-at : (t : List ℕ) → Powers t → (i : ℕ) → i < 1024 → getD t
 unfolding Powers
 power-at t p i h = ap (λ (l : List ℕ). getD l i 0) p ∙ getD-tabulate power 1024 i 0 h
 
-pub power-small : (t : List ℕ) → Powers t → (i : ℕ) → i < 1024 → getD t i 0 ≤ 12288
+pub power-small : (t : List ℕ) → Powers t → (i : ℕ) → i < 1024 → getD t i 0 < modulus
 power-small t p i h = omega (arith, power-at t p i h, power-le i)
 
 -- ---- sizes
@@ -35,6 +36,17 @@ halved zero n p e = absurd (not-suc-le-zero p)
 halved (suc k) n p e =
     let d : suc k - 1 ≡ k = omega arith in
     rw d (omega arith, omega arith)
+
+size-leaf : (k : ℕ) → k ≤ 0 → size k ≡ 8
+unfolding size
+size-leaf zero p = refl
+size-leaf (suc k) p = absurd (not-suc-le-zero p)
+
+-- the last split is of 16 coefficients
+pub last-size : (k n : ℕ) → 0 < k → k ≤ 1 → n ≡ size k → (8 ≡ size (k - 1)) × (n ≡ 16)
+last-size k n p q e =
+    let eight = size-leaf (k - 1) (omega arith) in
+    (sym eight, omega (arith, eight, halved k n p e))
 
 -- ---- what a split leaves of l, where it has 2h coefficients
 module _ (h w : ℕ) (l s : List ℕ) (two : length l ≡ h + h) (is : s ≡ low h w l ++ high h w l) where
@@ -58,17 +70,15 @@ unfolding remainders
 remainders-step zero e l p = absurd (not-suc-le-zero p)
 remainders-step (suc k) e l p = let d : suc k - 1 ≡ k = omega arith in rw d
 
--- s is what a split leaves of l, and m and n what becomes of its halves
-pub remainders-layer : (k e w : ℕ) (l s m n : List ℕ) → 0 < k → length l ≡ size k → w ≡ power (e / 2)
-    → s ≡ low (length l / 2) w l ++ high (length l / 2) w l
-    → m ≡ remainders (k - 1) (e / 2) (take (length l / 2) s)
-    → n ≡ remainders (k - 1) (e / 2 + 512) (drop (length l / 2) s)
+-- s is what a split leaves of l, which has 2h coefficients, and m and n what becomes of its halves
+pub remainders-layer : (k e h w : ℕ) (l s m n : List ℕ) → 0 < k → h ≡ size (k - 1) → length l ≡ h + h → w ≡ power (e / 2)
+    → s ≡ low h w l ++ high h w l
+    → m ≡ remainders (k - 1) (e / 2) (take h s)
+    → n ≡ remainders (k - 1) (e / 2 + 512) (drop h s)
     → m ++ n ≡ remainders k e l
-remainders-layer k e w l s m n p len ew es em en =
-    let h = length l / 2 in
-    let two = halved k (length l) p len .1 in
+remainders-layer k e h w l s m n p eh two ew es em en =
     ap₂ _++_ (em ∙ ap (remainders (k - 1) (e / 2)) (first-is h w l s two es)) (en ∙ ap (remainders (k - 1) (e / 2 + 512)) (second-is h w l s two es))
-    ∙ ap₂ (λ (x v : ℕ). remainders (k - 1) (e / 2) (low x v l) ++ remainders (k - 1) (e / 2 + 512) (high x v l)) (halved k (length l) p len .0) ew
+    ∙ ap₂ (λ (x v : ℕ). remainders (k - 1) (e / 2) (low x v l) ++ remainders (k - 1) (e / 2 + 512) (high x v l)) eh ew
     ∙ sym (remainders-step k e l p)
 
 pub remainders-leaf : (k e : ℕ) (l : List ℕ) → k ≤ 0 → l ≡ remainders k e l
@@ -85,30 +95,18 @@ convolution-step zero e f g p = absurd (not-suc-le-zero p)
 convolution-step (suc k) e f g p = let d : suc k - 1 ≡ k = omega arith in rw d
 
 -- s is what a split leaves of l, m and n what becomes of its halves, and r what is joined of these
-pub convolution-layer : (k e w v : ℕ) (f l s m n r : List ℕ) → 0 < k → length l ≡ size k → w ≡ power (e / 2) → v ≡ power (512 - e / 2)
-    → s ≡ low (length l / 2) w l ++ high (length l / 2) w l
-    → m ≡ convolution (k - 1) (e / 2) (take (length l / 2) f) (take (length l / 2) s)
-    → n ≡ convolution (k - 1) (e / 2 + 512) (drop (length l / 2) f) (drop (length l / 2) s)
-    → length m ≡ length l / 2
-    → r ≡ joined v (take (length l / 2) (m ++ n)) (drop (length l / 2) (m ++ n))
+pub convolution-layer : (k e h w v : ℕ) (f l s m n r : List ℕ) → 0 < k → h ≡ size (k - 1) → length l ≡ h + h → w ≡ power (e / 2) → v ≡ power (512 - e / 2)
+    → s ≡ low h w l ++ high h w l
+    → m ≡ convolution (k - 1) (e / 2) (take h f) (take h s)
+    → n ≡ convolution (k - 1) (e / 2 + 512) (drop h f) (drop h s)
+    → length m ≡ h
+    → r ≡ joined v (take h (m ++ n)) (drop h (m ++ n))
     → r ≡ convolution k e f l
-convolution-layer k e w v f l s m n r p len ew ev es em en lm er =
-    let h = length l / 2 in
-    let two = halved k (length l) p len .1 in
+convolution-layer k e h w v f l s m n r p eh two ew ev es em en lm er =
     er
     ∙ ap₂ (joined v)
     (take-at m n h lm ∙ em ∙ ap (convolution (k - 1) (e / 2) (take h f)) (first-is h w l s two es))
     (drop-at m n h lm ∙ en ∙ ap (convolution (k - 1) (e / 2 + 512) (drop h f)) (second-is h w l s two es))
-    ∙ ap₂ (λ (x y : ℕ). joined y (convolution (k - 1) (e / 2) (take x f) (low x w l)) (convolution (k - 1) (e / 2 + 512) (drop x f) (high x w l))) (halved k (length l) p len .0) ev
+    ∙ ap₂ (λ (x y : ℕ). joined y (convolution (k - 1) (e / 2) (take x f) (low x w l)) (convolution (k - 1) (e / 2 + 512) (drop x f) (high x w l))) eh ev
     ∙ ap (λ (x : ℕ). joined (power (512 - e / 2)) (convolution (k - 1) (e / 2) (take (size (k - 1)) f) (low (size (k - 1)) x l)) (convolution (k - 1) (e / 2 + 512) (drop (size (k - 1)) f) (high (size (k - 1)) x l))) ew
     ∙ sym (convolution-step k e f l p)
-
-pub convolution-leaf : (k e : ℕ) (f g : List ℕ) → k ≤ 0 → productModulo (power e) f g ≡ convolution k e f g
-unfolding convolution
-convolution-leaf zero e f g p = refl
-convolution-leaf (suc k) e f g p = absurd (not-suc-le-zero p)
-
-pub size-leaf : (k : ℕ) → k ≤ 0 → size k ≡ 8
-unfolding size
-size-leaf zero p = refl
-size-leaf (suc k) p = absurd (not-suc-le-zero p)

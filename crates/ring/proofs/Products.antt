@@ -1,4 +1,4 @@
--- Products modulo x^n - w: their lengths and bounds, and that a remainder modulo x^h - w of a product is the product of the remainders.
+-- Products modulo x^n - w: their bounds, and that a remainder modulo x^h - w of a product is the product of the remainders.
 -- Assumes nothing.
 use mathlib.Core.Path.{_≡_, refl, ap, ap₂, sym, _∙_}
 use mathlib.Core.List.{List, [], _∷_, _++_, map, append-assoc, append-nil}
@@ -6,59 +6,25 @@ use Prim.Native.Nat.{ℕ, zero, suc, _+_, _-_, _<_}
 use native.Mathlib.Nat.{suc-inj, suc-ne-zero}
 use native.Mathlib.Omega.{arith}
 use lib.ListN.{length, take, drop, getD, replicate, length-append, length-drop, length-replicate, drop-of-length-le, take-append-drop, replicate-append-replicate}
-use lib.Seq.{length-take-le, take-suc, take-all, take-at, drop-at, drop-cons, getD-at}
+use lib.Seq.{length-take-le, take-suc, take-all, take-at, drop-at}
 use Rattle.laws.specs.Lists.{zipWith}
-use Rattle.laws.proofs.Entries.{length-zipWith, getD-zipWith, zipWith-append}
+use Rattle.laws.proofs.Entries.{length-zipWith, zipWith-append}
 use Rattle.laws.proofs.Pointwise.{take-zipWith, drop-zipWith, zipWith-replicate, zipWith-medial}
-use Rattle.polynomials.specs.Field.{add, mul}
-use Rattle.ring.specs.Transform.{Within, turn, productModulo, plus, low, high}
+use Rattle.polynomials.specs.Field.{byRows, add, mul, mix, turn, productModulo}
+use Rattle.polynomials.proofs.Rows.{length-turned, turned-last, turned-more, turned-zipWith, length-byRows}
+use Rattle.ring.specs.Transform.{Within, plus, low, high}
 use Rattle.ring.proofs.Field as F
 use Rattle.ring.proofs.Field.{field}
 use Rattle.ring.proofs.Zips.{within-zipWith, within-zeros, shared, joined-later, zipWith-map, zipWith-alike}
 
--- one term more of a product
-abbrev pub mix : ℕ → ℕ → ℕ → ℕ
-mix a y z = add (mul a y) z
-
--- ---- lengths and bounds
-
-pub length-turn : (w : ℕ) (h : List ℕ) → 0 < length h → length (turn w h) ≡ length h
-unfolding turn
-length-turn w h p = omega (arith, length-take-le (length h - 1) h (omega arith))
-
-pub length-product : (w : ℕ) (f g : List ℕ) → 0 < length g → length (productModulo w f g) ≡ length g
-unfolding productModulo
-length-product w [] g p = length-replicate (length g) 0
-length-product w (a ∷ f) g p =
-    let ih = length-product w f g p in
-    let t = length-turn w (productModulo w f g) (omega arith) in
-    length-zipWith (mix a) g (turn w (productModulo w f g)) (omega arith)
+-- ---- bounds
 
 pub within-product : (w : ℕ) (f g : List ℕ) → Within 12288 (productModulo w f g)
-unfolding productModulo
+unfolding byRows
 within-product w [] g = within-zeros 12288 (length g)
 within-product w (a ∷ f) g = within-zipWith 12288 (mix a) (λ y z. F.add-le (mul a y) z) g (turn w (productModulo w f g))
 
 -- ---- turns
-
--- what passes through a product by w passes through a turn
-turn-zipWith : (w : ℕ) (p : ℕ → ℕ → ℕ) → ((x y : ℕ) → mul w (p x y) ≡ p (mul w x) (mul w y)) → (a b : List ℕ) → length a ≡ length b → 0 < length a
-    → turn w (zipWith p a b) ≡ zipWith p (turn w a) (turn w b)
-unfolding turn zipWith
-turn-zipWith w p h a b e pos =
-    let l = length-zipWith p a b e in
-    let n = length a - 1 in
-    ap (λ (m : ℕ). mul w (getD (zipWith p a b) (m - 1) 0) ∷ take (m - 1) (zipWith p a b)) l
-    ∙ ap₂ _∷_ (ap (mul w) (getD-zipWith p a b n 0 0 0 (omega arith) (omega arith)) ∙ h (getD a n 0) (getD b n 0)) (take-zipWith p n a b)
-    ∙ ap (λ (m : ℕ). p (mul w (getD a n 0)) (mul w (getD b (m - 1) 0)) ∷ zipWith p (take n a) (take (m - 1) b)) e
-
-turn-last : (w x : ℕ) (l : List ℕ) → turn w (l ++ (x ∷ [])) ≡ mul w x ∷ l
-unfolding turn
-turn-last w x l =
-    let n : length (l ++ (x ∷ [])) - 1 ≡ length l = omega (arith, length-append l (x ∷ [])) in
-    ap₂ (λ (y : ℕ) (r : List ℕ). mul w y ∷ r)
-    (ap (λ (m : ℕ). getD (l ++ (x ∷ [])) m 0) n ∙ getD-at l x [] 0 (length l) refl)
-    (ap (λ (m : ℕ). take m (l ++ (x ∷ []))) n ∙ take-at l (x ∷ []) (length l) refl)
 
 turns : ℕ → ℕ → List ℕ → List ℕ
 turns w zero h = h
@@ -68,13 +34,7 @@ turns w (suc j) h = turn w (turns w j h)
 turns-are : (w j r : ℕ) (h : List ℕ) → length h ≡ r + j → turns w j h ≡ map (mul w) (drop r h) ++ take r h
 unfolding turns
 turns-are w zero r h e = ap₂ (λ (x y : List ℕ). map (mul w) x ++ y) (sym (drop-of-length-le h {i = r} (omega arith))) (sym (take-all r h (omega arith)))
-turns-are w (suc j) r h e =
-    let x = getD h r 0 in
-    ap (turn w) (turns-are w j (suc r) h (omega arith)
-    ∙ ap (λ (l : List ℕ). map (mul w) (drop (suc r) h) ++ l) (take-suc h r 0 (omega arith))
-    ∙ sym (append-assoc (map (mul w) (drop (suc r) h)) (take r h) (x ∷ [])))
-    ∙ turn-last w x (map (mul w) (drop (suc r) h) ++ take r h)
-    ∙ ap (λ (l : List ℕ). map (mul w) l ++ take r h) (sym (drop-cons h r 0 (omega arith)))
+turns-are w (suc j) r h e = ap (turn w) (turns-are w j (suc r) h (omega arith)) ∙ sym (turned-more (mul w) 0 r h (omega arith))
 
 -- x^n is w
 turns-all : (w : ℕ) (h : List ℕ) → turns w (length h) h ≡ map (mul w) h
@@ -85,7 +45,7 @@ unfolding turns
 length-turns w zero h p = refl
 length-turns w (suc j) h p =
     let ih = length-turns w j h p in
-    length-turn w (turns w j h) (omega arith) ∙ ih
+    length-turned (mul w) 0 (turns w j h) (omega arith) ∙ ih
 
 -- ---- the first factor in two parts
 
@@ -96,18 +56,18 @@ zeros-add (x ∷ p) h = ap₂ _∷_ (F.zero-add x (h 0)) (zeros-add p (λ i. h (
 
 longer : (w : ℕ) (f f′ g : List ℕ) → 0 < length g
     → productModulo w (f ++ f′) g ≡ zipWith add (productModulo w f g) (turns w (length f) (productModulo w f′ g))
-unfolding productModulo turns
+unfolding byRows turns
 longer w [] f′ g p =
-    sym (ap (λ (n : ℕ). zipWith add (replicate n 0) (productModulo w f′ g)) (sym (length-product w f′ g p)) ∙ zeros-add (productModulo w f′ g) (within-product w f′ g))
+    sym (ap (λ (n : ℕ). zipWith add (replicate n 0) (productModulo w f′ g)) (sym (length-byRows (mul w) 0 mix f′ g p)) ∙ zeros-add (productModulo w f′ g) (within-product w f′ g))
 longer w (a ∷ f) f′ g p =
     let P = productModulo w f g in
     let Q = productModulo w f′ g in
     let T = turns w (length f) Q in
-    let lp = length-product w f g p in
-    let lq = length-product w f′ g p in
+    let lp = length-byRows (mul w) 0 mix f g p in
+    let lq = length-byRows (mul w) 0 mix f′ g p in
     let lt = length-turns w (length f) Q (omega arith) in
     ap (λ (l : List ℕ). zipWith (mix a) g (turn w l)) (longer w f f′ g p)
-    ∙ ap (zipWith (mix a) g) (turn-zipWith w add (λ x y. F.mul-add w x y) P T (omega arith) (omega arith))
+    ∙ ap (zipWith (mix a) g) (turned-zipWith (mul w) 0 add (λ x y. F.mul-add w x y) P T (omega arith) (omega arith))
     ∙ joined-later (mix a) add (mix a) add (λ y z u. sym (F.add-assoc (mul a y) z u)) g (turn w P) (turn w T)
 
 times-plus : (w x y : ℕ) → mul w (plus w x y) ≡ plus w (mul w x) (mul w y)
@@ -121,17 +81,17 @@ plus-zeros w n = zipWith-replicate (plus w) n 0 0 ∙ ap (replicate n) (ap (add 
 
 product-plus : (w : ℕ) (f f′ g : List ℕ) → length f ≡ length f′ → 0 < length g
     → productModulo w (zipWith (plus w) f f′) g ≡ zipWith (plus w) (productModulo w f g) (productModulo w f′ g)
-unfolding productModulo zipWith
+unfolding byRows zipWith
 product-plus w [] [] g e p = sym (plus-zeros w (length g))
 product-plus w [] (b ∷ f′) g e p = absurd (suc-ne-zero (length f′) (sym e))
 product-plus w (a ∷ f) [] g e p = absurd (suc-ne-zero (length f) e)
 product-plus w (a ∷ f) (b ∷ f′) g e p =
     let P = productModulo w f g in
     let Q = productModulo w f′ g in
-    let lp = length-product w f g p in
-    let lq = length-product w f′ g p in
+    let lp = length-byRows (mul w) 0 mix f g p in
+    let lq = length-byRows (mul w) 0 mix f′ g p in
     ap (λ (l : List ℕ). zipWith (mix (plus w a b)) g (turn w l)) (product-plus w f f′ g (suc-inj e) p)
-    ∙ ap (zipWith (mix (plus w a b)) g) (turn-zipWith w (plus w) (times-plus w) P Q (omega arith) (omega arith))
+    ∙ ap (zipWith (mix (plus w a b)) g) (turned-zipWith (mul w) 0 (plus w) (times-plus w) P Q (omega arith) (omega arith))
     ∙ sym (shared (plus w) (mix a) (mix b) (mix (plus w a b)) (mix-plus w a b) g (turn w P) (turn w Q))
 
 -- the first factor may be reduced
@@ -144,7 +104,7 @@ first-reduced w h f g ef eg p =
     let lb : length B ≡ h = omega (arith, length-drop h f) in
     let P = productModulo w A g in
     let Q = productModulo w B g in
-    let lq = length-product w B g (omega arith) in
+    let lq = length-byRows (mul w) 0 mix B g (omega arith) in
     ap (λ (l : List ℕ). productModulo w l g) (sym (take-append-drop h f))
     ∙ longer w A B g (omega arith)
     ∙ ap (λ (n : ℕ). zipWith add P (turns w n Q)) (omega arith)
@@ -176,10 +136,10 @@ unfolding zipWith
 low-turn-parts w a b x y h ex ey =
     let W = mul w w in
     ap (λ (l : List ℕ). low h w (turn W l)) (sym (append-assoc (x ++ (a ∷ [])) y (b ∷ [])))
-    ∙ ap (low h w) (turn-last W b ((x ++ (a ∷ [])) ++ y) ∙ ap (λ (l : List ℕ). mul W b ∷ l) (append-assoc x (a ∷ []) y))
+    ∙ ap (low h w) (turned-last (mul W) 0 b ((x ++ (a ∷ [])) ++ y) ∙ ap (λ (l : List ℕ). mul W b ∷ l) (append-assoc x (a ∷ []) y))
     ∙ low-append w (mul W b ∷ x) (a ∷ y) h (omega arith)
     ∙ ap (λ (n : ℕ). n ∷ zipWith (plus w) x y) (turn-head w a b)
-    ∙ sym (turn-last w (plus w a b) (zipWith (plus w) x y))
+    ∙ sym (turned-last (mul w) 0 (plus w a b) (zipWith (plus w) x y))
     ∙ ap (turn w) (sym (low-append w (x ++ (a ∷ [])) (y ++ (b ∷ [])) h (omega (arith, length-append x (a ∷ [])))
     ∙ zipWith-append (plus w) x (a ∷ []) y (b ∷ []) (omega arith)))
 
@@ -206,7 +166,7 @@ length-low w h g e =
     length-zipWith (plus w) (take h g) (drop h g) (omega (arith, la, length-drop h g)) ∙ la
 
 low-product : (w h : ℕ) (f g : List ℕ) → length g ≡ h + h → 0 < h → low h w (productModulo (mul w w) f g) ≡ productModulo w f (low h w g)
-unfolding productModulo
+unfolding byRows
 low-product w h [] g e p =
     ap (λ (n : ℕ). low h w (replicate n 0)) e
     ∙ ap (low h w) (sym (replicate-append-replicate h h 0))
@@ -217,7 +177,7 @@ low-product w h (a ∷ f) g e p =
     let W = mul w w in
     low-mix w h a g (turn W (productModulo W f g))
     ∙ ap (zipWith (mix a) (low h w g))
-    (low-turn w h (productModulo W f g) (length-product W f g (omega arith) ∙ e) p ∙ ap (turn w) (low-product w h f g e p))
+    (low-turn w h (productModulo W f g) (length-byRows (mul W) 0 mix f g (omega arith) ∙ e) p ∙ ap (turn w) (low-product w h f g e p))
 
 -- the product of two remainders modulo x^h - w is that of the product modulo x^(2h) - w^2
 pub remainder-product : (w h : ℕ) (f g : List ℕ) → length f ≡ h + h → length g ≡ h + h → 0 < h

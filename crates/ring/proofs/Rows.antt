@@ -6,16 +6,16 @@ use Prim.Native.Nat.{ℕ, zero, suc, _+_, _*_, _-_, _%_, _<_, _≤_}
 use native.Mathlib.Nat as N
 use native.Mathlib.Numerals.{add-one}
 use native.Mathlib.Omega.{arith}
-use lib.ListN.{length, take, drop, getD, replicate, length-map, length-drop, drop-of-length-le, List·getD-map}
+use lib.ListN.{length, take, drop, getD, replicate, length-drop, drop-of-length-le}
 use lib.Seq.{length-take-le, drop-cons, drop-drop, getD-take, getD-drop, take-take}
 use Rattle.laws.specs.Lists.{zipWith}
-use Rattle.laws.proofs.Pointwise.{map-take, map-zipWith}
+use Rattle.laws.proofs.Pointwise.{map-zipWith}
 use Rattle.sets.specs.Numbers.{modulus}
-use Rattle.polynomials.specs.Field.{add, mul}
-use Rattle.ring.specs.Transform.{Within, turn, productModulo}
+use Rattle.polynomials.specs.Field.{turned, byRows, add, mul, mix, turn, productModulo}
+use Rattle.polynomials.proofs.Rows.{map-turned}
+use Rattle.ring.specs.Transform.{Within}
 use Rattle.ring.proofs.Estimates.{residues-product}
 use Rattle.ring.proofs.Zips.{map-same, within-take, within-zeros}
-use Rattle.ring.proofs.Products.{mix}
 
 -- what one row more is, before it is reduced
 abbrev pub grown : ℕ → ℕ → List ℕ → ℕ → List ℕ → List ℕ
@@ -29,13 +29,13 @@ residue-row a y z =
 -- its residues are a row more of the product of residues
 residues-grown : (w a : ℕ) (s l : List ℕ) → Within 12288 s → length l ≡ 8
     → map (λ x. x % modulus) (grown w a s (getD l 7 0) (take 7 l)) ≡ zipWith (mix a) s (turn w (map (λ x. x % modulus) l))
-unfolding turn mul
+unfolding turned mul
 residues-grown w a s l p e =
     let r : ℕ → ℕ = λ x. x % modulus in
-    map-zipWith (λ y z. z + a * y) (mix a) (λ x. x) r r (residue-row a) s (w * (getD l 7 0 % modulus) ∷ take 7 l)
-    ∙ ap₂ (zipWith (mix a)) (map-same 12288 (λ x. x) (λ x q. refl) s p)
-    (ap₂ (λ (x : ℕ) (t : List ℕ). w * x % modulus ∷ t) (sym (List·getD-map r l 7 0)) (map-take r 7 l)
-    ∙ ap (λ (n : ℕ). w * getD (map r l) (n - 1) 0 % modulus ∷ take (n - 1) (map r l)) (sym (length-map l r ∙ e)))
+    let back : ℕ → ℕ = λ x. w * (x % modulus) in
+    ap (λ (n : ℕ). map r (zipWith (λ y z. z + a * y) s (back (getD l (n - 1) 0) ∷ take (n - 1) l))) (sym e)
+    ∙ map-zipWith (λ y z. z + a * y) (mix a) (λ x. x) r r (residue-row a) s (turned back 0 l)
+    ∙ ap₂ (zipWith (mix a)) (map-same 12288 (λ x. x) (λ x q. refl) s p) (map-turned r back (mul w) 0 (λ x. refl) l)
 
 -- and each entry has grown by one product of residues
 within-row : (b a : ℕ) (s t : List ℕ) → a ≤ 12288 → Within 12288 s → Within b t → Within (b + 150994944) (zipWith (λ y z. z + a * y) s t)
@@ -57,7 +57,7 @@ pub record Window (w : ℕ) (f s : List ℕ) (i : ℕ) (c : List ℕ) : Type 0 w
 
 module _ (w : ℕ) (f s : List ℕ) (w-small : w ≤ 12288) (lf : length f ≡ 8) (ls : length s ≡ 8) (f-small : Within 12288 f) (s-small : Within 12288 s) where
   pub begin : Window w f s 8 (replicate 16 0)
-  unfolding productModulo
+  unfolding byRows
   begin =
       record {
         long = refl;
@@ -80,7 +80,7 @@ module _ (w : ℕ) (f s : List ℕ) (w-small : w ≤ 12288) (lf : length f ≡ 8
     room j = rw (drop-drop 1 i c, ← first-rows) (omega (arith, within-take ((9 - (i + 1)) * 150994944) 7 rows (so .small) j))
 
     pub more : (c′ : List ℕ) → length c′ ≡ 16 → take 8 (drop i c′) ≡ grown w (getD f i 0) s (getD (drop i c) 8 0) (take 7 (drop 1 (drop i c))) → Window w f s i c′
-    unfolding productModulo
+    unfolding byRows
     more c′ l e =
         let a = getD f i 0 in
         let last : getD (drop i c) 8 0 ≡ getD rows 7 0

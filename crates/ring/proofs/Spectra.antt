@@ -2,28 +2,29 @@
 -- Assumes nothing.
 use mathlib.Core.Path.{_≡_, refl, ap, ap₂, sym, _∙_}
 use mathlib.Core.Bool.{Bool, true, _&&_}
-use mathlib.Core.List.{List, [], _∷_, _++_, map, map-append, map-map}
+use mathlib.Core.List.{List, _++_, map, map-append, map-map}
 use Prim.Native.Nat.{ℕ, zero, suc, _+_, _-_, _/_, _%_, _<_, _≤_}
 use native.Mathlib.Omega.{arith}
 use borrow.Author.Tests.{eqb-true}
 use lib.Dec.{eqb, lit<}
 use lib.IntN.{ℤ}
-use lib.ListN.{length, take, drop, getD, replicate, length-append, length-drop, length-map, take-append-drop}
+use lib.ListN.{length, take, drop, length-append, length-drop, length-map, take-append-drop}
 use lib.Seq.{length-take-le, take-at, drop-at}
 use Rattle.laws.specs.Integers.{residue}
 use Rattle.laws.specs.Lists.{zipWith}
 use Rattle.laws.proofs.Chain.{and-left, and-right}
 use Rattle.laws.proofs.Congruence.{residue-lt}
 use Rattle.sets.specs.Numbers.{modulus}
-use Rattle.polynomials.specs.Field.{add, mul, turnMod, fieldProduct}
+use Rattle.polynomials.specs.Field.{add, mul, mix, productModulo}
 use Rattle.polynomials.specs.Product.{product}
+use Rattle.polynomials.proofs.Rows.{length-byRows}
 use Rattle.polynomials.proofs.Residues.{product-residues}
 use Rattle.ring.specs.Powers.{power}
-use Rattle.ring.specs.Transform.{sub, Within, turn, productModulo, plus, minus, low, high, size, remainders, spectrumOf, back, joined, convolution}
+use Rattle.ring.specs.Transform.{sub, Within, plus, minus, low, high, size, remainders, spectrumOf, back, joined, convolution}
 use Rattle.ring.proofs.Field as F
 use Rattle.ring.proofs.Field.{field}
 use Rattle.ring.proofs.Zips.{within-zipWith, within-map, within-append, both-joins, join-first, join-second, zipWith-alike, map-same}
-use Rattle.ring.proofs.Products.{length-product, within-product, length-low, remainder-product, high-low}
+use Rattle.ring.proofs.Products.{within-product, length-low, remainder-product, high-low}
 
 pub positive : (k : ℕ) → 0 < size k
 unfolding size
@@ -152,8 +153,8 @@ convolution-is (suc k) e f g o b lf lg =
     ∙ remainder-product u h f g lf lg (positive k)
     ∙ ap (λ (x : ℕ). low h u (productModulo x f g)) (F.square-negative w ∙ square)
     ∙ sym (high-low w h P)) in
-    let lP : length P ≡ h + h = length-product (power e) f g (omega (arith, positive k)) ∙ lg in
-    let vw : mul v w ≡ 12288 = sym (F.power-add (512 - e / 2) (e / 2)) ∙ ap power (omega arith) ∙ F.power-512 in
+    let lP : length P ≡ h + h = length-byRows (mul (power e)) 0 mix f g (omega (arith, positive k)) ∙ lg in
+    let vw : mul v w ≡ 12288 = sym (F.power-add (512 - e / 2) (e / 2)) ∙ ap power (omega arith) ∙ F.power-points .1 in
     ap₂ (joined v) l r ∙ rejoined c w v h P lP vw
 
 scaled-back : (x : ℕ) → x ≤ 12288 → mul 12097 (mul 64 x) ≡ x
@@ -164,7 +165,7 @@ scaled-back x h = sym (F.mul-assoc 12097 64 x) ∙ F.one-mul x h
 pub whole : (f g : List ℕ) → length f ≡ 512 → length g ≡ 512 → map (mul 12097) (convolution 6 512 (remainders 6 512 f) g) ≡ productModulo 12288 f g
 unfolding doubled size
 whole f g lf lg =
-    ap (map (mul 12097)) (convolution-is 6 512 f g refl (lit< tt) lf lg ∙ ap (λ (w : ℕ). map (mul 64) (productModulo w f g)) F.power-512)
+    ap (map (mul 12097)) (convolution-is 6 512 f g refl (lit< tt) lf lg ∙ ap (λ (w : ℕ). map (mul 64) (productModulo w f g)) (F.power-points .1))
     ∙ map-map (mul 12097) (mul 64) (productModulo 12288 f g)
     ∙ map-same 12288 (λ x. mul 12097 (mul 64 x)) scaled-back (productModulo 12288 f g) (within-product 12288 f g)
 
@@ -184,15 +185,6 @@ pub within-spectrum : (a : List ℕ) → Within 12288 (spectrumOf a)
 unfolding spectrumOf
 within-spectrum a = within-remainders 6 512 (map (λ x. x % modulus) a) (within-residues a)
 
--- the product modulo x^512 + 1, in the form of `polynomials`
-field-product : (f g : List ℕ) → length g ≡ 512 → productModulo 12288 f g ≡ fieldProduct f g
-unfolding productModulo fieldProduct turn turnMod
-field-product [] g e = ap (λ (n : ℕ). replicate n 0) e
-field-product (a ∷ f) g e =
-    let P = productModulo 12288 f g in
-    ap (λ (n : ℕ). zipWith (λ y z. add (mul a y) z) g (mul 12288 (getD P (n - 1) 0) ∷ take (n - 1) P)) (length-product 12288 f g (omega arith) ∙ e)
-    ∙ ap (λ (p : List ℕ). zipWith (λ y z. add (mul a y) z) g (turnMod p)) (field-product f g e)
-
 pub product-is : (a : List ℕ) (z : List ℤ) → length a ≡ 512 → length z ≡ 512
     → map (mul 12097) (convolution 6 512 (spectrumOf a) (map (residue modulus) z)) ≡ product a z
 unfolding spectrumOf
@@ -200,4 +192,4 @@ product-is a z la lz =
     let f = map (λ x. x % modulus) a in
     let g = map (residue modulus) z in
     let lg : length g ≡ 512 = length-map z (residue modulus) ∙ lz in
-    whole f g (length-map a (λ x. x % modulus) ∙ la) lg ∙ field-product f g lg ∙ sym (product-residues a z la lz)
+    whole f g (length-map a (λ x. x % modulus) ∙ la) lg ∙ sym (product-residues a z la lz)

@@ -1,11 +1,11 @@
 -- The transform: a polynomial modulo x^512 + 1 is taken apart into its remainders modulo x^8 - w for 64 numbers w, products are made of
 -- remainders, and put together again. What the product is does not rest on this page (polynomials/specs/Product.antt says it).
-use mathlib.Core.List.{List, [], _∷_, _++_, map}
+use mathlib.Core.List.{List, _++_, map}
 use Prim.Native.Nat.{ℕ, zero, suc, _+_, _-_, _/_, _%_, _≤_}
-use lib.ListN.{length, getD, take, drop, replicate}
+use lib.ListN.{getD, take, drop}
 use Rattle.laws.specs.Lists.{zipWith}
 use Rattle.sets.specs.Numbers.{dimension, modulus}
-use Rattle.polynomials.specs.Field.{add, mul}
+use Rattle.polynomials.specs.Field.{add, mul, productModulo}
 use Rattle.ring.specs.Powers.{power}
 
 -- x - y modulo q: q - 1 is -1
@@ -15,17 +15,6 @@ sub x y = add x (mul (modulus - 1) y)
 -- every entry is at most the bound
 abbrev pub Within : ℕ → List ℕ → Type 0
 Within bound l = (i : ℕ) → getD l i 0 ≤ bound
-
--- ---- products modulo x^n - w
-
--- x times h, modulo x^n - w, where h has n coefficients
-unfoldable pub turn : ℕ → List ℕ → List ℕ
-turn w h = mul w (getD h (length h - 1) 0) ∷ take (length h - 1) h
-
--- f times g, modulo x^n - w, where g has n coefficients
-unfoldable pub productModulo : ℕ → List ℕ → List ℕ → List ℕ
-productModulo w [] g = replicate (length g) 0
-productModulo w (a ∷ f) g = zipWith (λ y z. add (mul a y) z) g (turn w (productModulo w f g))
 
 -- ---- remainders
 

@@ -8,10 +8,10 @@ ghost use lib.ListN.{length, getD, take, drop};
 ghost use Rattle.laws.specs.Integers.{residue};
 ghost use Rattle.laws.specs.Lists.{zipWith};
 ghost use Rattle.sets.specs.Numbers.{dimension, modulus};
-ghost use Rattle.polynomials.specs.Field.{add, mul};
+ghost use Rattle.polynomials.specs.Field.{add, mul, productModulo};
 ghost use Rattle.polynomials.specs.Product.{product};
 ghost use Rattle.ring.specs.Powers.{Powers};
-ghost use Rattle.ring.specs.Transform.{sub, Within, productModulo, low, high, size, remainders, spectrumOf, joined, convolution};
+ghost use Rattle.ring.specs.Transform.{sub, Within, low, high, size, remainders, spectrumOf, joined, convolution};
 use sets::Set;
 use table::POWERS;
 
@@ -125,26 +125,28 @@ fn rescale(s: &mut [u16])
 
 // ---- the transform
 
-// s, of size k, taken apart into its remainders of 8 coefficients, modulo x^(size k) - 49^e.
+// s, of size k, taken apart into its remainders of 8 coefficients, modulo x^(size k) - 49^e. Of 16 coefficients one split is all.
 fn decompose(s: &mut [u16], k: usize, e: usize, powers: &[u16])
-    requires { ⌜ (length (now s) ≡ size k) × (e < dimension + dimension) × Powers (now powers) × Within (modulus - 1) (now s) ⌝ }
+    requires { ⌜ (0 < k) × (length (now s) ≡ size k) × (e < dimension + dimension) × Powers (now powers) × Within (modulus - 1) (now s) ⌝ }
     ensures { λ _. ⌜ now (s .exit) ≡ remainders k e (now (s .entry)) ⌝ }
 {
-    if 0 < k {
+    if 1 < k {
         let h = s.len() / 2;
         let f = e / 2;
         split(s, h, powers[f]);
         decompose(&mut s[..h], k - 1, f, powers);
         decompose(&mut s[h..], k - 1, f + Set::DIMENSION, powers);
+    } else {
+        split(s, 8, powers[e / 2]);
     }
 }
 
 // s times what f are the remainders of, modulo x^(size k) - 49^e, and doubled k times.
 fn convolve(s: &mut [u16], f: &[u16], k: usize, e: usize, powers: &[u16])
-    requires { ⌜ (length (now s) ≡ size k) × (length (now f) ≡ size k) × (e < dimension + dimension) × Powers (now powers) × Within (modulus - 1) (now s) × Within (modulus - 1) (now f) ⌝ }
+    requires { ⌜ (0 < k) × (length (now s) ≡ size k) × (length (now f) ≡ size k) × (e < dimension + dimension) × Powers (now powers) × Within (modulus - 1) (now s) × Within (modulus - 1) (now f) ⌝ }
     ensures { λ _. ⌜ now (s .exit) ≡ convolution k e (now (f .entry)) (now (s .entry)) ⌝ }
 {
-    if 0 < k {
+    if 1 < k {
         let h = s.len() / 2;
         let d = e / 2;
         split(s, h, powers[d]);
@@ -152,8 +154,20 @@ fn convolve(s: &mut [u16], f: &[u16], k: usize, e: usize, powers: &[u16])
         convolve(&mut s[h..], &f[h..], k - 1, d + Set::DIMENSION, powers);
         join(s, h, powers[Set::DIMENSION - d]);
     } else {
-        block(s, f, powers[e]);
+        two_blocks(s, f, e, powers);
     }
+}
+
+// The same where k is 1: the halves are blocks.
+fn two_blocks(s: &mut [u16], f: &[u16], e: usize, powers: &[u16])
+    requires { ⌜ (length (now s) ≡ 16) × (length (now f) ≡ 16) × (e < dimension + dimension) × Powers (now powers) × Within (modulus - 1) (now s) × Within (modulus - 1) (now f) ⌝ }
+    ensures { λ _. ⌜ now (s .exit) ≡ convolution 1 e (now (f .entry)) (now (s .entry)) ⌝ }
+{
+    let d = e / 2;
+    split(s, 8, powers[d]);
+    block(&mut s[..8], &f[..8], powers[d]);
+    block(&mut s[8..], &f[8..], powers[d + Set::DIMENSION]);
+    join(s, 8, powers[Set::DIMENSION - d]);
 }
 
 // One layer: s modulo x^h - w, then s modulo x^h + w.

@@ -4,34 +4,29 @@ use mathlib.Core.List.{[], _∷_}
 use Prim.Native.Nat.{ℕ, suc, _+_, _*_, _-_, _/_, _%_, _^_, _<_, _≤_}
 use native.Mathlib.Nat.{div-lt-iff-lt-mul, suc-mul, mod-lt, mod-eq-of-lt, mod-self}
 use native.Mathlib.Omega.{arith}
-use borrow.Author.Tests.{lt-ltb, le-ltb}
 use lib.IntN.{ℤ, pos, _+ℤ_, _-ℤ_, _*ℤ_}
 use Rattle.laws.specs.Integers.{residue}
-use Rattle.laws.proofs.Linear.{sum, difference, eq-out}
+use Rattle.laws.proofs.Linear.{le-out, lt-out, eq-out, sum, difference, opposite}
 use Rattle.laws.proofs.Congruence.{Cong, cong-eq, cong-trans, cong-multiple, residue-is, residue-small, residue-same, residue-cong, cong-sym, cong-add, cong-refl, cong-mod}
 use Rattle.laws.proofs.Solver.{v, k, _⊕_, _⊗_, ring}
 use Rattle.sets.specs.declared.Set.{Set}
 use Rattle.sets.specs.Numbers.{twiceModulus, dOf, pOf}
-use Rattle.sets.proofs.Alike.{spread, half-step, step-positive, p-positive, p-even}
+use Rattle.sets.proofs.Alike.{spread, step-at-least-256, p-positive, p-even}
 use Rattle.rounding.specs.Rounding.{upper, centred}
-
-pub upper-lt : (s : Set) (x : ℕ) → upper s x < pOf s
-unfolding upper
-upper-lt s x = mod-lt _ (p-positive s)
+use Rattle.rounding.proofs.Laws.{halves, quotient-nearest, upper-is-nearest, centred-alone}
 
 -- the steps of a reduced number are at most p
 module _ (s : Set) (x : ℕ) (small : x < twiceModulus) where
   abbrev steps : ℕ
-  steps = (x + 2 ^ dOf s / 2) / 2 ^ dOf s
+  steps = (x + 2 ^ (dOf s - 1)) / 2 ^ dOf s
 
   steps-le : steps < suc (pOf s)
   steps-le =
-      let h : 0 < 2 ^ dOf s = omega (arith, step-positive s) in
-      div-lt-iff-lt-mul h .1 (omega (arith, spread s, step-positive s, suc-mul (pOf s) (2 ^ dOf s)))
+      let h : 0 < 2 ^ dOf s = omega (arith, step-at-least-256 s) in
+      div-lt-iff-lt-mul h .1 (omega (arith, spread s, step-at-least-256 s, halves s, suc-mul (pOf s) (2 ^ dOf s)))
 
   upper-steps : upper s x ≡ steps % pOf s
-  unfolding upper
-  upper-steps = ap (λ (h : ℕ). (x + h) / 2 ^ dOf s % pOf s) (sym (half-step s))
+  upper-steps = upper-is-nearest s x steps (quotient-nearest s x)
 
   -- at p steps the remainder by p is 0
   pub upper-last : steps ≡ pOf s → 0 ≡ upper s x
@@ -43,28 +38,29 @@ module _ (s : Set) (x : ℕ) (small : x < twiceModulus) where
       sym (upper-steps ∙ mod-eq-of-lt h)
 
 -- ---- modulo p
+
+-- a number below 2p, less p where it is not below p
+module _ (p x : ℕ) where
+  pub wrap-low : x < p → x ≡ residue p (pos x)
+  wrap-low h = sym (residue-small x h)
+
+  pub wrap-high : p ≤ x → x < p + p → x - p ≡ residue p (pos x)
+  wrap-high h j =
+      sym (residue-is (omega arith) (record { times = pos 1; eq = eq-out (pos x) (pos (x - p) +ℤ pos p *ℤ pos 1) (omega arith) }) (omega arith))
+
 module _ (s : Set) where
-  -- a number below 2p, less p where it is not below p
-  pub wrap-low : (x : ℕ) → x < pOf s → x ≡ residue (pOf s) (pos x)
-  wrap-low x h = sym (residue-small x h)
-
-  pub wrap-high : (x : ℕ) → pOf s ≤ x → x < pOf s + pOf s → x - pOf s ≡ residue (pOf s) (pos x)
-  wrap-high x h j =
-      sym (residue-is (p-positive s) (record { times = pos 1; eq = eq-out (pos x) (pos (x - pOf s) +ℤ pos (pOf s) *ℤ pos 1) (omega arith) }) (omega arith))
-
   -- a residue, centred
   pub centre-low : (x : ℕ) → x < pOf s / 2 → pos x ≡ centred s (pos x)
-  unfolding centred
   centre-low x h =
-      let e : residue (pOf s) (pos x) ≡ x = residue-small x (omega (arith, p-even s)) in
-      rw (e, lt-ltb x (pOf s / 2) h)
+      sym (centred-alone s (pos x) (pos x) (le-out (omega (arith, opposite (pos (pOf s / 2)))), lt-out (omega arith)) (pos 0, eq-out (pos x) (pos x +ℤ pos (pOf s) *ℤ pos 0) (omega arith)))
 
   pub centre-high : (x : ℕ) → pOf s / 2 ≤ x → x < pOf s → pos 0 -ℤ pos (pOf s - x) ≡ centred s (pos x)
-  unfolding centred
   centre-high x h j =
-      let e : residue (pOf s) (pos x) ≡ x = residue-small x j in
-      rw (e, le-ltb x (pOf s / 2) h)
-      (eq-out (pos 0 -ℤ pos (pOf s - x)) (pos x -ℤ pos (pOf s)) (omega (arith, difference (pos 0) (pos (pOf s - x)), difference (pos x) (pos (pOf s)))))
+      let c : ℤ = pos 0 -ℤ pos (pOf s - x) in
+      let e = difference (pos 0) (pos (pOf s - x)) in
+      sym (centred-alone s (pos x) c
+      (le-out (omega (arith, e, opposite (pos (pOf s / 2)), p-even s)), lt-out (omega (arith, e)))
+      (pos 1, eq-out (pos x) (c +ℤ pos (pOf s) *ℤ pos 1) (omega (arith, e, sum c (pos (pOf s) *ℤ pos 1)))))
 
   -- only the residue counts
   pub centred-same : (x y : ℤ) → residue (pOf s) x ≡ residue (pOf s) y → centred s x ≡ centred s y

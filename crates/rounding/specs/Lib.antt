@@ -1,2 +1,3 @@
 -- 01, "Ring arithmetic": rounding.
 pub mod Rounding
+pub mod Laws

@@ -11,9 +11,13 @@ use Rattle.sets.specs.Numbers.{twiceModulus, factor, dOf, pOf}
 unfoldable pub upper : Set → ℕ → ℕ
 upper s x = (x + 2 ^ (dOf s - 1)) / 2 ^ dOf s % pOf s
 
+-- the residue from which on p is taken off
+abbrev pub halfOf : Set → ℕ
+halfOf s = pOf s / 2
+
 -- centred modulo p, in -p/2 .. p/2 - 1
 unfoldable pub centred : Set → ℤ → ℤ
-centred s z = cond (ltb (residue (pOf s) z) (pOf s / 2)) (pos (residue (pOf s) z)) (pos (residue (pOf s) z) -ℤ pos (pOf s))
+centred s z = cond (ltb (residue (pOf s) z) (halfOf s)) (pos (residue (pOf s) z)) (pos (residue (pOf s) z) -ℤ pos (pOf s))
 
 -- 12288 t + y modulo 24578
 unfoldable pub summed : ℕ → ℤ → ℕ

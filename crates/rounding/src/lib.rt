@@ -1,37 +1,38 @@
 // Rounding: upper digits, centring modulo p, and the sums that are rounded (01, "Ring arithmetic").
 // A number is reduced modulo 24578 before it is rounded, always: 25,089 reduces to 511, whose upper digits are 0 at d = 10; rounded first it gives 1.
+// So what is rounded has to be below 24578, by a `requires`.
+// A set's d and p are asked once, by the caller, and not in its loop: the compiler vectorises no loop that has a `match` in it. The set itself is lent for the
+// contracts.
 ghost use mathlib.Core.Path.{_≡_};
-ghost use Prim.Native.Nat.{_+_, _*_, _%_, _<_};
+ghost use Prim.Native.Nat.{_+_, _*_, _^_, _<_};
 ghost use lib.IntN.{pos, natAbs, _+ℤ_, _-ℤ_};
 ghost use Rattle.laws.specs.Integers.{residue};
-ghost use Rattle.sets.specs.Numbers.{twiceModulus, pOf};
+ghost use Rattle.sets.specs.Numbers.{twiceModulus, dOf, pOf};
 ghost use Rattle.rounding.specs.Rounding.{upper, centred, summed, dagger as daggerOf, restored as restoredOf};
 use sets::Set;
 
-// The upper digits of x, reduced first. With 2^(d-1) added, a reduced x is below p + 1 steps, so the remainder by p is 0 at p and the number itself below.
-pub fn upper_digits(s: Set, x: u32) -> u32
-    ensures { λ r. ⌜ r ≡ upper s (x % twiceModulus) ⌝ }
+// The upper digits of a reduced x. With 2^(d-1) added it is below p + 1 steps, so the remainder by p is 0 at p and the number itself below.
+pub fn upper_digits(s: Set, d: u32, p: u32, x: u32) -> u32
+    requires { ⌜ (d ≡ dOf s) × (p ≡ pOf s) × (x < twiceModulus) ⌝ }
+    ensures { λ r. ⌜ r ≡ upper s x ⌝ }
 {
-    let reduced = x % Set::TWICE_MODULUS;
-    let steps = (reduced + s.step() / 2) >> s.d();
-    if steps == s.p() { 0 } else { steps }
+    let steps = (x + (1 << (d - 1))) >> d;
+    if steps == p { 0 } else { steps }
 }
 
 // x modulo p, of x below 2p.
-fn wrap(s: Set, x: u32) -> u32
-    requires { ⌜ x < pOf s + pOf s ⌝ }
-    ensures { λ r. ⌜ (r ≡ residue (pOf s) (pos x)) × (r < pOf s) ⌝ }
+fn wrap(p: u32, x: u32) -> u32
+    requires { ⌜ x < p + p ⌝ }
+    ensures { λ r. ⌜ (r ≡ residue p (pos x)) × (r < p) ⌝ }
 {
-    let p = s.p();
     if x < p { x } else { x - p }
 }
 
 // A residue modulo p, centred: p/2 goes to -p/2.
-pub fn centre(s: Set, x: u32) -> i8
-    requires { ⌜ x < pOf s ⌝ }
+pub fn centre(s: Set, p: u32, x: u32) -> i8
+    requires { ⌜ (p ≡ pOf s) × (x < p) ⌝ }
     ensures { λ r. ⌜ r ≡ centred s (pos x) ⌝ }
 {
-    let p = s.p();
     if x < p / 2 {
         x as i8
     } else {
@@ -66,29 +67,28 @@ pub fn difference(u: u32, z: i16) -> u32
 }
 
 // z2 dagger at one place.
-pub fn dagger(s: Set, u: u32, z: i16) -> i8
-    requires { ⌜ u < twiceModulus ⌝ }
+pub fn dagger(s: Set, d: u32, p: u32, u: u32, z: i16) -> i8
+    requires { ⌜ (d ≡ dOf s) × (p ≡ pOf s) × (u < twiceModulus) ⌝ }
     ensures { λ r. ⌜ r ≡ daggerOf s u z ⌝ }
 {
-    let whole = upper_digits(s, u);
-    let rest = upper_digits(s, difference(u, z));
-    centre(s, wrap(s, whole + s.p() - rest))
+    let whole = upper_digits(s, d, p, u);
+    let rest = upper_digits(s, d, p, difference(u, z));
+    centre(s, p, wrap(p, whole + p - rest))
 }
 
-// z modulo p, of z2 dagger within p.
-fn raise(s: Set, z: i8) -> u32
-    requires { ⌜ natAbs z < pOf s ⌝ }
-    ensures { λ r. ⌜ (pos r ≡ z +ℤ pos (pOf s)) × (r < pOf s + pOf s) ⌝ }
+// z + p, of z2 dagger within p: above 0, and below 2p.
+fn raise(p: u32, z: i8) -> u32
+    requires { ⌜ (natAbs z < p) × (p < 2 ^ 16) ⌝ }
+    ensures { λ r. ⌜ (pos r ≡ z +ℤ pos p) × (r < p + p) ⌝ }
 {
-    let p = s.p() as i32;
-    (z as i32 + p) as u32
+    (z as i32 + p as i32) as u32
 }
 
 // What the rebuild answers at one place.
-pub fn restored(s: Set, w: u32, z: i8) -> u16
-    requires { ⌜ natAbs z < pOf s ⌝ }
-    ensures { λ r. ⌜ r ≡ restoredOf s (w % twiceModulus) z ⌝ }
+pub fn restored(s: Set, d: u32, p: u32, w: u32, z: i8) -> u16
+    requires { ⌜ (d ≡ dOf s) × (p ≡ pOf s) × (w < twiceModulus) × (natAbs z < pOf s) ⌝ }
+    ensures { λ r. ⌜ r ≡ restoredOf s w z ⌝ }
 {
-    let moved = wrap(s, raise(s, z));
-    wrap(s, upper_digits(s, w) + moved) as u16
+    let moved = wrap(p, raise(p, z));
+    wrap(p, upper_digits(s, d, p, w) + moved) as u16
 }

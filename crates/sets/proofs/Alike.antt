@@ -9,10 +9,10 @@ use Rattle.sets.specs.declared.Set.{Set}
 use Rattle.sets.specs.declared.Set.the-variants.{I, II, III, IV}
 use Rattle.sets.specs.declared.Asked.{Asked}
 use Rattle.sets.specs.declared.Asked.the-variants.{Known, Unknown}
-use Rattle.sets.specs.Numbers.{twiceModulus, maskLimit, listLimit, recordLimit, kappaOf, dOf, pOf, largestOf, keyLimitOf, totalOf, numberOf, namedOf, askedOf}
+use Rattle.sets.specs.Numbers.{twiceModulus, maskLimit, listLimit, listOffset, recordLimit, Largest, kappaOf, dOf, pOf, largestOf, boundOf, boundSquaredOf, keyLimitOf, totalOf, setNumberOf, namedOf, askedOf}
 
 -- a statement about a set, from its four cases
-pub each : (P : Set → Type 0) → P I → P II → P III → P IV → (s : Set) → P s
+each : (P : Set → Type 0) → P I → P II → P III → P IV → (s : Set) → P s
 each P a b c d I = a
 each P a b c d II = b
 each P a b c d III = c
@@ -25,15 +25,11 @@ p-is-quotient = each _ refl refl refl refl
 pub spread : (s : Set) → pOf s * 2 ^ dOf s + 2 ≡ twiceModulus
 spread = each _ refl refl refl refl
 
--- half a step is 2^(d-1)
-pub half-step : (s : Set) → 2 ^ dOf s / 2 ≡ 2 ^ (dOf s - 1)
-half-step = each _ refl refl refl refl
-
 pub step-small : (s : Set) → 2 ^ dOf s ≤ 1024
 step-small = each _ (lit≤ tt) (lit≤ tt) (lit≤ tt) (lit≤ tt)
 
-pub step-positive : (s : Set) → 256 ≤ 2 ^ dOf s
-step-positive = each _ (lit≤ tt) (lit≤ tt) (lit≤ tt) (lit≤ tt)
+pub step-at-least-256 : (s : Set) → 256 ≤ 2 ^ dOf s
+step-at-least-256 = each _ (lit≤ tt) (lit≤ tt) (lit≤ tt) (lit≤ tt)
 
 -- the square of a step, as the length rule's sum has it
 pub step-squared : (s : Set) → 2 ^ dOf s * 2 ^ dOf s ≡ 4 ^ dOf s
@@ -49,8 +45,8 @@ p-positive = each _ (lit< tt) (lit< tt) (lit< tt) (lit< tt)
 pub p-small : (s : Set) → pOf s ≤ 96
 p-small = each _ (lit≤ tt) (lit≤ tt) (lit≤ tt) (lit≤ tt)
 
-pub d-positive : (s : Set) → 8 ≤ dOf s
-d-positive = each _ (lit≤ tt) (lit≤ tt) (lit≤ tt) (lit≤ tt)
+pub d-at-least-8 : (s : Set) → 8 ≤ dOf s
+d-at-least-8 = each _ (lit≤ tt) (lit≤ tt) (lit≤ tt) (lit≤ tt)
 
 pub d-small : (s : Set) → dOf s ≤ 10
 d-small = each _ (lit≤ tt) (lit≤ tt) (lit≤ tt) (lit≤ tt)
@@ -58,12 +54,18 @@ d-small = each _ (lit≤ tt) (lit≤ tt) (lit≤ tt) (lit≤ tt)
 pub kappa-within : (s : Set) → kappaOf s ≤ listLimit
 kappa-within = each _ (lit≤ tt) (lit≤ tt) (lit≤ tt) (lit≤ tt)
 
+pub list-limit : Largest kappaOf listLimit
+list-limit = (kappa-within, (IV, refl))
+
 pub largest-small : (s : Set) → largestOf s < 2 ^ 15
 largest-small = each _ (lit< tt) (lit< tt) (lit< tt) (lit< tt)
 
 -- so that a z2 dagger that the length rule passes is below p
 pub largest-below-spread : (s : Set) → largestOf s < pOf s * 2 ^ dOf s
 largest-below-spread = each _ (lit< tt) (lit< tt) (lit< tt) (lit< tt)
+
+pub bound-squared : (s : Set) → boundSquaredOf s ≡ boundOf s * boundOf s
+bound-squared = each _ refl refl refl refl
 
 pub key-limit-small : (s : Set) → keyLimitOf s ≤ 1784
 key-limit-small = each _ (lit≤ tt) (lit≤ tt) (lit≤ tt) (lit≤ tt)
@@ -77,24 +79,27 @@ pub second-trial : (s : Set) → 2 * ((maskLimit + 5 * kappaOf s) * (kappaOf s *
 second-trial = each _ (lit< tt) (lit< tt) (lit< tt) (lit< tt)
 
 pub total-within : (s : Set) → totalOf s ≤ recordLimit
-total-within = each _ (lit≤ tt) (lit≤ tt) (lit≤ tt) (lit≤ tt)
+total-within s = omega (arith, kappa-within s)
+
+pub record-limit : Largest totalOf recordLimit
+record-limit = (total-within, (list-limit .1 .0, ap (λ (n : ℕ). listOffset + 2 * n) (list-limit .1 .1)))
 
 pub total-small : (s : Set) → totalOf s < 2 ^ 16
-total-small = each _ (lit< tt) (lit< tt) (lit< tt) (lit< tt)
+total-small s = omega (arith, total-within s)
 
 -- a set's number stands for the set, in a record and on a call
-pub named-back : (s : Set) → namedOf (numberOf s) ≡ Known s
+pub named-back : (s : Set) → namedOf (setNumberOf s) ≡ Known s
 unfolding namedOf
 named-back = each _ refl refl refl refl
 
 -- and no other number does
-named-step : (s s′ : Set) (n : ℕ) (rest : Asked) → (rest ≡ Known s → n ≡ numberOf s) → cond (eqb n (numberOf s′)) (Known s′) rest ≡ Known s → n ≡ numberOf s
+named-step : (s s′ : Set) (n : ℕ) (rest : Asked) → (rest ≡ Known s → n ≡ setNumberOf s) → cond (eqb n (setNumberOf s′)) (Known s′) rest ≡ Known s → n ≡ setNumberOf s
 named-step s s′ n rest later =
-    cond-ind (eqb n (numberOf s′)) (Known s′) rest (λ a. a ≡ Known s → n ≡ numberOf s)
-    (λ t e. let same : s′ ≡ s = cc in eqb→eq n (numberOf s′) t ∙ ap numberOf same)
+    cond-ind (eqb n (setNumberOf s′)) (Known s′) rest (λ a. a ≡ Known s → n ≡ setNumberOf s)
+    (λ t e. let same : s′ ≡ s = cc in eqb→eq n (setNumberOf s′) t ∙ ap setNumberOf same)
     (λ t. later)
 
-pub named-is : (s : Set) (n : ℕ) → namedOf n ≡ Known s → n ≡ numberOf s
+pub named-is : (s : Set) (n : ℕ) → namedOf n ≡ Known s → n ≡ setNumberOf s
 unfolding namedOf
 named-is s n =
     named-step s I n _
@@ -106,9 +111,9 @@ named-is s n =
     none : _≡_ {A = ℕ} 0 1 → ⊥
     none z = omega arith
 
-pub number-small : (s : Set) → numberOf s < 256
+pub number-small : (s : Set) → setNumberOf s < 256
 number-small = each _ (lit< tt) (lit< tt) (lit< tt) (lit< tt)
 
-pub asked-back : (s : Set) → askedOf (numberOf s) ≡ Known s
+pub asked-back : (s : Set) → askedOf (setNumberOf s) ≡ Known s
 unfolding askedOf namedOf
 asked-back = each _ refl refl refl refl

@@ -1,6 +1,7 @@
 -- The numbers of the sets, as the table of 01, "Parameters", has them.
+use mathlib.Core.Path.{_≡_}
 use mathlib.Core.Bool.{cond}
-use Prim.Native.Nat.{ℕ, _+_, _*_}
+use Prim.Native.Nat.{ℕ, _+_, _*_, _≤_}
 use lib.Dec.{eqb}
 use Rattle.sets.specs.declared.Set.{Set}
 use Rattle.sets.specs.declared.Set.the-variants.{I, II, III, IV}
@@ -33,13 +34,31 @@ maskLimit = 4096
 abbrev pub places : ℕ
 places = 31
 
--- the entries of a reader's list buffer
+-- the entries of a reader's list buffer: the largest kappa
 abbrev pub listLimit : ℕ
 listLimit = 39
 
--- the bytes of the longest record of any set
+-- ---- the form of a record (01, "The record")
+
+-- the bytes of a header
+abbrev pub headerLength : ℕ
+headerLength = 24
+
+-- where z1 starts
+abbrev pub z1Offset : ℕ
+z1Offset = headerLength
+
+-- where z2 dagger starts
+abbrev pub z2Offset : ℕ
+z2Offset = 1048
+
+-- where the list starts
+abbrev pub listOffset : ℕ
+listOffset = 1560
+
+-- the bytes of the longest record: the largest total
 abbrev pub recordLimit : ℕ
-recordLimit = 1638
+recordLimit = listOffset + 2 * listLimit
 
 -- ---- of each set
 
@@ -71,6 +90,13 @@ largestOf II = 1563
 largestOf III = 1760
 largestOf IV = 1613
 
+-- B2
+abbrev pub boundOf : Set → ℕ
+boundOf I = 12872
+boundOf II = 11074
+boundOf III = 10206
+boundOf IV = 9901
+
 -- B2 squared
 abbrev pub boundSquaredOf : Set → ℕ
 boundSquaredOf I = 165688384
@@ -85,18 +111,22 @@ keyLimitOf II = 775
 keyLimitOf III = 1409
 keyLimitOf IV = 1784
 
--- the bytes of a record (01, "The record")
+-- the bytes of a record
 abbrev pub totalOf : Set → ℕ
-totalOf s = 1560 + 2 * kappaOf s
+totalOf s = listOffset + 2 * kappaOf s
+
+-- the largest that a number of the sets is: no set has more, and one has as many
+abbrev pub Largest : (Set → ℕ) → ℕ → Type 0
+Largest number limit = ((s : Set) → number s ≤ limit) × ((s : Set) × (number s ≡ limit))
 
 -- ---- numbers for sets
 
 -- No.
-abbrev pub numberOf : Set → ℕ
-numberOf I = 1
-numberOf II = 2
-numberOf III = 3
-numberOf IV = 4
+abbrev pub setNumberOf : Set → ℕ
+setNumberOf I = 1
+setNumberOf II = 2
+setNumberOf III = 3
+setNumberOf IV = 4
 
 -- the set of that number
 unfoldable pub namedOf : ℕ → Asked

@@ -1,7 +1,16 @@
 // The parameter sets: the numbers of a set are asked of the set and stand nowhere else (01, "Parameters").
 ghost use mathlib.Core.Path.{_≡_};
 ghost use Prim.Native.Nat.{_^_};
-ghost use Rattle.sets.specs.Numbers.{kappaOf, dOf, pOf, largestOf, boundSquaredOf, keyLimitOf, totalOf, numberOf, namedOf, askedOf};
+ghost use Rattle.sets.specs.Numbers.{kappaOf, dOf, pOf, largestOf, boundSquaredOf, keyLimitOf, totalOf, setNumberOf, namedOf, askedOf};
+
+// The bytes of a record's header, and where z1, z2 dagger and the list start (01, "The record").
+pub const HEADER_LENGTH: usize = 24;
+
+pub const Z1_OFFSET: usize = HEADER_LENGTH;
+
+pub const Z2_OFFSET: usize = 1048;
+
+pub const LIST_OFFSET: usize = 1560;
 
 pub enum Set {
     I,
@@ -39,7 +48,7 @@ impl Set {
     pub const LIST_LIMIT: usize = 39;
 
     // The bytes of the longest record of any set.
-    pub const RECORD_LIMIT: usize = 1638;
+    pub const RECORD_LIMIT: usize = LIST_OFFSET + 2 * Set::LIST_LIMIT;
 
     pub fn kappa(self) -> usize
         ensures { λ r. ⌜ r ≡ kappaOf self ⌝ }
@@ -118,12 +127,12 @@ impl Set {
     pub fn total(self) -> usize
         ensures { λ r. ⌜ r ≡ totalOf self ⌝ }
     {
-        1560 + 2 * self.kappa()
+        LIST_OFFSET + 2 * self.kappa()
     }
 
     // The number that stands in a record.
     pub fn number(self) -> u32
-        ensures { λ r. ⌜ r ≡ numberOf self ⌝ }
+        ensures { λ r. ⌜ r ≡ setNumberOf self ⌝ }
     {
         match self {
             Set::I => 1,

@@ -16,8 +16,8 @@ use Rattle.vectors.specs.Vectors.{squares, sizes}
 use Rattle.vectors.proofs.Lengths.{sizes-le-times}
 use Rattle.vectors.proofs.Ranges.{within-at}
 use Rattle.commitment.specs.Commitment.{isMask, areMasks}
-use Rattle.choices.specs.Choices.{signed}
-use Rattle.choices.proofs.Pairs.{signed-within}
+use Rattle.choices.specs.Choices.{addedIf}
+use Rattle.choices.proofs.Pairs.{addedIf-within}
 
 module _ (y1 y2 : List ℤ) (masks : areMasks y1 y2 ≡ true) where
   pub first-mask : (k : ℕ) → natAbs (getD y1 k (pos 0)) ≤ maskLimit
@@ -34,8 +34,8 @@ module _ (s : Set) (y v : List ℤ) (small : (k : ℕ) → natAbs (getD y k (pos
   sum-fits k = omega (arith, small k, short k, kappa-within s)
 
   module _ (ly : length y ≡ dimension) (lv : length v ≡ dimension) (bit : Bool) where
-    pub sizes-z : sizes (zipWith (signed (not bit)) y v) v ≤ (maskLimit + 5 * kappaOf s) * squares v
-    sizes-z = sizes-le-times (maskLimit + 5 * kappaOf s) (zipWith (signed (not bit)) y v) v (λ k. signed-within (not bit) y v (ly ∙ sym lv) k maskLimit (5 * kappaOf s) (small k) (short k))
+    pub sizes-z : sizes (zipWith (addedIf (not bit)) y v) v ≤ (maskLimit + 5 * kappaOf s) * squares v
+    sizes-z = sizes-le-times (maskLimit + 5 * kappaOf s) (zipWith (addedIf (not bit)) y v) v (λ k. addedIf-within (not bit) y v (ly ∙ sym lv) k maskLimit (5 * kappaOf s) (small k) (short k))
 
 -- both halves
 pub trial-fits : (s : Set) (n1 n2 q1 q2 : ℕ) → n1 ≤ (maskLimit + 5 * kappaOf s) * q1 → n2 ≤ (maskLimit + 5 * kappaOf s) * q2

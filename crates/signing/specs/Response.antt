@@ -10,28 +10,70 @@ use Rattle.laws.specs.Refusals.{must}
 use Rattle.sets.specs.declared.Set.{Set}
 use Rattle.sets.specs.Numbers.{places, kappaOf, keyLimitOf, askedOf}
 use Rattle.answers.specs.declared.Outcome.{Outcome}
-use Rattle.answers.specs.declared.Outcome.the-variants.{Done, UnknownSet, WrongLength, CoefficientOutside, MaskOutside, ImproperList, Rejected, WordMissing}
+use Rattle.answers.specs.declared.Outcome.the-variants.{Done, UnknownSet, WrongLength, CoefficientOutside, MaskOutside, ImproperList, DrawRejected, WordMissing}
 use Rattle.answers.specs.Outcomes.{unless, forSet}
 use Rattle.rounding.specs.Rounding.{dagger}
+use Rattle.vectors.specs.Vectors.{sized}
+use Rattle.vectors.specs.Pairs.{Pair, pair, squaresPair, innerPair}
 use Rattle.vectors.specs.Places.{properList}
 use Rattle.limits.specs.LengthRule.{lengthRule}
-use Rattle.keys.specs.Key.{inRange, second, properKey, sized}
+use Rattle.keys.specs.Key.{inRange, second, properKey}
 use Rattle.commitment.specs.Commitment.{areMasks, sums}
-use Rattle.choices.specs.Choices.{Pair, pair, squaresPair, innerPair, signed, choices}
+use Rattle.choices.specs.Choices.{addedIf, choices}
 use Rattle.draw.specs.Draw.{walkOf, afterWalk}
+
+-- ---- what goes in, and what is left behind
+
+-- What a signing call is lent: the key, the masks, the challenge list, the sign bit (no for 0, yes for 1), the thresholds and the words; z1 and z2 are what the
+-- output vectors of z1 and z2 dagger held before.
+pub record Lent : Type 0 where
+  pub f : List ℤ
+  pub g : List ℤ
+  pub a : List ℕ
+  pub y1 : List ℤ
+  pub y2 : List ℤ
+  pub list : List ℕ
+  pub sign : Bool
+  pub thresholds : List ℕ
+  pub words : List ℕ
+  pub z1 : List ℤ
+  pub z2 : List ℤ
+
+-- (s1, s2): s1 = f and s2 = 2g + 1
+abbrev pub secret : Lent → Pair
+secret c = pair (c .f) (second (c .g))
+
+-- What the draw takes of that, once v is there.
+pub record Drawing : Type 0 where
+  pub a : List ℕ
+  pub y : Pair
+  pub sign : Bool
+  pub thresholds : List ℕ
+  pub words : List ℕ
+  pub old : Pair
+
+abbrev pub drawing : Lent → Drawing
+drawing c = record { a = c .a; y = pair (c .y1) (c .y2); sign = c .sign; thresholds = c .thresholds; words = c .words; old = pair (c .z1) (c .z2) }
 
 -- what the response leaves behind: the outcome, the count of words taken, and the contents of the vectors z1 and z2 dagger
 pub data Responded : Type 0 where
   responded : Outcome → ℕ → List ℤ → List ℤ → Responded
 
--- z = y + v for sign bit 0 (no), y - v for sign bit 1 (yes), over whole numbers
-unfoldable pub masked : Bool → Pair → Pair → Pair
-masked bit y v = pair (zipWith (signed (not bit)) (y .first) (v .first)) (zipWith (signed (not bit)) (y .second) (v .second))
+-- an answer that gives out a pair of vectors, or leaves one as it was
+abbrev pub leaving : Pair → ℕ → Outcome → Responded
+leaving x count o = responded o count (x .first) (x .second)
 
--- the numbers of the two trials: kappa K minus the squared length of v; twice the absolute value of the inner product of z and v
+-- ---- z, and the numbers of the trials
+
+-- z = y + v for sign bit 0, y - v for sign bit 1, over whole numbers
+unfoldable pub masked : Bool → Pair → Pair → Pair
+masked bit y v = pair (zipWith (addedIf (not bit)) (y .first) (v .first)) (zipWith (addedIf (not bit)) (y .second) (v .second))
+
+-- kappa K minus the squared length of v
 abbrev pub firstTrial : Set → Pair → ℕ
 firstTrial s v = kappaOf s * keyLimitOf s - squaresPair v
 
+-- twice the absolute value of the inner product of z and v
 abbrev pub secondTrial : Pair → Pair → ℕ
 secondTrial z v = 2 * natAbs (innerPair z v)
 
@@ -39,41 +81,47 @@ secondTrial z v = 2 * natAbs (innerPair z v)
 unfoldable pub daggers : Set → List ℕ → List ℤ → List ℤ
 daggers s u z2 = zipWith (dagger s) u z2
 
--- the length rule of z1 and z2 dagger, and both given out where it passes: 10, 11
-abbrev pub given : Set → ℕ → List ℤ → List ℤ → List ℤ → List ℤ → Responded
-given s count z1 dagger2 out1 out2 =
-    unless (lengthRule s z1 dagger2) (λ o. responded o count out1 out2)
-    (responded Done count z1 dagger2)
+-- z1 and z2 dagger, where u is made anew from a, y1 and y2
+abbrev pub shortened : Set → Drawing → Pair → Pair
+shortened s d z = pair (z .first) (daggers s (sums (d .a) (d .y .first) (d .y .second)) (z .second))
 
--- the draw, then the length rule: 8 or 9 as the walk ends, then 10, 11
-unfoldable pub drawn : Set → List ℕ → Pair → Pair → Pair → List ℕ → List ℕ → List ℤ → List ℤ → Responded
-drawn s a y z v thresholds words out1 out2 =
-    afterWalk (walkOf (firstTrial s v) (secondTrial z v) words thresholds)
-    (λ count. given s count (z .first) (daggers s (sums a (y .first) (y .second)) (z .second)) out1 out2)
-    (λ count. responded Rejected count out1 out2)
-    (responded WordMissing (length words) out1 out2)
+-- ---- the refusals in their order: 1, 2, 3, 4, 5, 7, 6, 8 or 9, 10, 11
 
--- the squared length of the key and its relation, then the sign choices and the draw: 7, 6, 8 or 9, 10, 11
-unfoldable pub signedWith : Set → List ℤ → List ℤ → List ℕ → List ℤ → List ℤ → List ℕ → Bool → List ℕ → List ℕ → List ℤ → List ℤ → Responded
-signedWith s s1 s2 a y1 y2 l bit thresholds words out1 out2 =
-    unless (properKey s a s1 s2) (λ o. responded o 0 out1 out2)
-    (drawn s a (pair y1 y2) (masked bit (pair y1 y2) (choices (pair s1 s2) l)) (choices (pair s1 s2) l) thresholds words out1 out2)
+-- 10, 11: the length rule of z1 and z2 dagger, which are given out where it passes
+abbrev pub given : Set → Pair → ℕ → Pair → Responded
+given s old count z =
+    unless (lengthRule s (z .first) (z .second)) (leaving old count)
+    (leaving z count Done)
 
--- key, masks and list: 3, 4, 5, then the above
-unfoldable pub tested : Set → List ℤ → List ℤ → List ℕ → List ℤ → List ℤ → List ℕ → Bool → List ℕ → List ℕ → List ℤ → List ℤ → Responded
-tested s f g a y1 y2 l bit thresholds words out1 out2 =
-    must (inRange f g a) (responded CoefficientOutside 0 out1 out2)
-    (must (areMasks y1 y2) (responded MaskOutside 0 out1 out2)
-    (must (properList s l) (responded ImproperList 0 out1 out2)
-    (signedWith s f (second g) a y1 y2 l bit thresholds words out1 out2)))
+-- 8 or 9 as the walk ends, then the above
+unfoldable pub drawn : Set → Drawing → Pair → Responded
+drawn s d v =
+    afterWalk (walkOf (firstTrial s v) (secondTrial (masked (d .sign) (d .y) v) v) (d .words) (d .thresholds))
+    (λ count. given s (d .old) count (shortened s d (masked (d .sign) (d .y) v)))
+    (λ count. leaving (d .old) count DrawRejected)
+    (leaving (d .old) (length (d .words)) WordMissing)
 
--- the response for a set: 2, then the above; `out1` and `out2` are what the output vectors held before
-unfoldable pub responseFor : Set → List ℤ → List ℤ → List ℕ → List ℤ → List ℤ → List ℕ → Bool → List ℕ → List ℕ → List ℤ → List ℤ → Responded
-responseFor s f g a y1 y2 l bit thresholds words out1 out2 =
-    must (sized f && (sized g && (sized a && (sized y1 && (sized y2 && (sized out1 && (sized out2 && eqb (length thresholds) places))))))) (responded WrongLength 0 out1 out2)
-    (tested s f g a y1 y2 l bit thresholds words out1 out2)
+-- every vector has 512 entries, and there are 31 thresholds
+abbrev pub allSized : Lent → Bool
+allSized c =
+    (sized (c .f) && (sized (c .g) && (sized (c .a) && sized (c .y1))))
+    && ((sized (c .y2) && (sized (c .z1) && sized (c .z2)))
+    && eqb (length (c .thresholds)) places)
 
--- the response: 1, 2, 3, 4, 5, 7, 6, 8 or 9, 10, 11
-unfoldable pub response : ℕ → List ℤ → List ℤ → List ℕ → List ℤ → List ℤ → List ℕ → Bool → List ℕ → List ℕ → List ℤ → List ℤ → Responded
-response set f g a y1 y2 l bit thresholds words out1 out2 =
-    forSet (askedOf set) (responded UnknownSet 0 out1 out2) (λ s. responseFor s f g a y1 y2 l bit thresholds words out1 out2)
+-- a refusal before the draw has taken no word
+abbrev pub early : Lent → Outcome → Responded
+early c = leaving (pair (c .z1) (c .z2)) 0
+
+-- 2, 3, 4, 5, 7, 6, then the draw with v, the sign choices
+unfoldable pub responseFor : Set → Lent → Responded
+responseFor s c =
+    must (allSized c) (early c WrongLength)
+    (must (inRange (c .f) (c .g) (c .a)) (early c CoefficientOutside)
+    (must (areMasks (c .y1) (c .y2)) (early c MaskOutside)
+    (must (properList s (c .list)) (early c ImproperList)
+    (unless (properKey s (c .a) (c .f) (second (c .g))) (early c)
+    (drawn s (drawing c) (choices (secret c) (c .list)))))))
+
+-- 1, then the above
+unfoldable pub response : ℕ → Lent → Responded
+response set c = forSet (askedOf set) (early c UnknownSet) (λ s. responseFor s c)

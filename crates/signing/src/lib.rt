@@ -7,12 +7,15 @@ ghost use lib.IntN.{pos, natAbs};
 ghost use lib.ListN.{length, getD};
 ghost use Rattle.laws.specs.Lists.{every, zipWith};
 ghost use Rattle.sets.specs.Numbers.{dimension, places, kappaOf, keyLimitOf};
+ghost use Rattle.answers.specs.Outcomes.{unless};
 ghost use Rattle.ring.specs.Transform.{spectrumOf};
 ghost use Rattle.vectors.specs.Vectors.{within, squares, sizes};
 ghost use Rattle.vectors.specs.Places.{properList};
+ghost use Rattle.keys.specs.Key.{properKey};
 ghost use Rattle.commitment.specs.Commitment.{isReduced, areMasks, sums};
-ghost use Rattle.choices.specs.Choices.{pair, signed};
-ghost use Rattle.signing.specs.Response.{responded, firstTrial, secondTrial, daggers, given, drawn, signedWith, tested, responseFor, response};
+ghost use Rattle.vectors.specs.Pairs.{pair};
+ghost use Rattle.choices.specs.Choices.{addedIf, choices};
+ghost use Rattle.signing.specs.Response.{responded, leaving, firstTrial, secondTrial, daggers, shortened, given, drawn, responseFor, response};
 use answers::Outcome;
 use draw::Ending;
 use sets::Asked;
@@ -40,8 +43,19 @@ pub fn respond(
     z2: &mut [i8],
 ) -> Response
     ensures { λ r. ⌜ responded (r .outcome) (r .words) (now (z1 .exit)) (now (z2 .exit))
-        ≡ response set (now (f .entry)) (now (g .entry)) (now (a .entry)) (now (y1 .entry)) (now (y2 .entry)) (now (list .entry)) sign
-        (now (thresholds .entry)) (now (words .entry)) (now (z1 .entry)) (now (z2 .entry)) ⌝ }
+        ≡ response set (record {
+          f = now (f .entry);
+          g = now (g .entry);
+          a = now (a .entry);
+          y1 = now (y1 .entry);
+          y2 = now (y2 .entry);
+          list = now (list .entry);
+          sign = sign;
+          thresholds = now (thresholds .entry);
+          words = now (words .entry);
+          z1 = now (z1 .entry);
+          z2 = now (z2 .entry);
+        }) ⌝ }
 {
     match Set::asked(set) {
         Asked::Unknown => refusal(Outcome::UnknownSet),
@@ -71,55 +85,36 @@ fn respond_for(
     z2: &mut [i8],
 ) -> Response
     ensures { λ r. ⌜ responded (r .outcome) (r .words) (now (z1 .exit)) (now (z2 .exit))
-        ≡ responseFor s (now (f .entry)) (now (g .entry)) (now (a .entry)) (now (y1 .entry)) (now (y2 .entry)) (now (list .entry)) sign
-        (now (thresholds .entry)) (now (words .entry)) (now (z1 .entry)) (now (z2 .entry)) ⌝ }
+        ≡ responseFor s (record {
+          f = now (f .entry);
+          g = now (g .entry);
+          a = now (a .entry);
+          y1 = now (y1 .entry);
+          y2 = now (y2 .entry);
+          list = now (list .entry);
+          sign = sign;
+          thresholds = now (thresholds .entry);
+          words = now (words .entry);
+          z1 = now (z1 .entry);
+          z2 = now (z2 .entry);
+        }) ⌝ }
 {
-    if !all_sized(
-        f.len(),
-        g.len(),
-        a.len(),
-        y1.len(),
-        y2.len(),
-        z1.len(),
-        z2.len(),
-        thresholds.len(),
-    ) {
+    let four = vectors::four_sized(f.len(), g.len(), a.len(), y1.len());
+    let three = vectors::three_sized(y2.len(), z1.len(), z2.len());
+    if !all_sized(four, three, thresholds.len()) {
         return refusal(Outcome::WrongLength);
     }
     test(s, f, g, a, y1, y2, list, sign, thresholds, words, z1, z2)
 }
 
-fn all_sized(
-    f: usize,
-    g: usize,
-    a: usize,
-    y1: usize,
-    y2: usize,
-    z1: usize,
-    z2: usize,
-    thresholds: usize,
-) -> bool
-    ensures { λ r. ⌜ r ≡ eqb f dimension && (eqb g dimension && (eqb a dimension && (eqb y1 dimension && (eqb y2 dimension && (eqb z1 dimension && (eqb z2 dimension && eqb thresholds places)))))) ⌝ }
+// Whether four and three vectors have their length, and the thresholds theirs.
+fn all_sized(four: bool, three: bool, thresholds: usize) -> bool
+    ensures { λ r. ⌜ r ≡ four && (three && eqb thresholds places) ⌝ }
 {
-    if f != Set::DIMENSION {
+    if !four {
         return false;
     }
-    if g != Set::DIMENSION {
-        return false;
-    }
-    if a != Set::DIMENSION {
-        return false;
-    }
-    if y1 != Set::DIMENSION {
-        return false;
-    }
-    if y2 != Set::DIMENSION {
-        return false;
-    }
-    if z1 != Set::DIMENSION {
-        return false;
-    }
-    if z2 != Set::DIMENSION {
+    if !three {
         return false;
     }
     thresholds == Set::PLACES
@@ -143,8 +138,19 @@ fn test(
     requires { ⌜ (length (now f) ≡ dimension) × (length (now g) ≡ dimension) × (length (now a) ≡ dimension) × (length (now thresholds) ≡ places) ⌝ }
     requires { ⌜ (length (now y1) ≡ dimension) × (length (now y2) ≡ dimension) × (length (now z1) ≡ dimension) × (length (now z2) ≡ dimension) ⌝ }
     ensures { λ r. ⌜ responded (r .outcome) (r .words) (now (z1 .exit)) (now (z2 .exit))
-        ≡ tested s (now (f .entry)) (now (g .entry)) (now (a .entry)) (now (y1 .entry)) (now (y2 .entry)) (now (list .entry)) sign
-        (now (thresholds .entry)) (now (words .entry)) (now (z1 .entry)) (now (z2 .entry)) ⌝ }
+        ≡ responseFor s (record {
+          f = now (f .entry);
+          g = now (g .entry);
+          a = now (a .entry);
+          y1 = now (y1 .entry);
+          y2 = now (y2 .entry);
+          list = now (list .entry);
+          sign = sign;
+          thresholds = now (thresholds .entry);
+          words = now (words .entry);
+          z1 = now (z1 .entry);
+          z2 = now (z2 .entry);
+        }) ⌝ }
 {
     let mut s1 = [0i16; Set::DIMENSION];
     let mut s2 = [0i16; Set::DIMENSION];
@@ -195,8 +201,16 @@ fn sign_with(
     requires { ⌜ (length (now y1) ≡ dimension) × (length (now y2) ≡ dimension) × (length (now z1) ≡ dimension) × (length (now z2) ≡ dimension) ⌝ }
     requires { ⌜ (every (within 5) (now s1) ≡ true) × (every (within 5) (now s2) ≡ true) × (areMasks (now y1) (now y2) ≡ true) × (properList s (now list) ≡ true) ⌝ }
     ensures { λ r. ⌜ responded (r .outcome) (r .words) (now (z1 .exit)) (now (z2 .exit))
-        ≡ signedWith s (now (s1 .entry)) (now (s2 .entry)) (now (a .entry)) (now (y1 .entry)) (now (y2 .entry)) (now (list .entry)) sign
-        (now (thresholds .entry)) (now (words .entry)) (now (z1 .entry)) (now (z2 .entry)) ⌝ }
+        ≡ unless (properKey s (now (a .entry)) (now (s1 .entry)) (now (s2 .entry))) (leaving (pair (now (z1 .entry)) (now (z2 .entry))) 0)
+        (drawn s (record {
+          a = now (a .entry);
+          y = pair (now (y1 .entry)) (now (y2 .entry));
+          sign = sign;
+          thresholds = now (thresholds .entry);
+          words = now (words .entry);
+          old = pair (now (z1 .entry)) (now (z2 .entry));
+        })
+        (choices (pair (now (s1 .entry)) (now (s2 .entry))) (now (list .entry)))) ⌝ }
 {
     let mut spectrum = [0u16; Set::DIMENSION];
     ring::transform_key(a, &mut spectrum);
@@ -243,9 +257,15 @@ fn draw_for(
     requires { ⌜ (now spectrum ≡ spectrumOf (now a)) × (areMasks (now y1) (now y2) ≡ true) × (squares (now v1) + squares (now v2) ≤ kappaOf s * keyLimitOf s) ⌝ }
     requires { ⌜ ((k : ℕ) → natAbs (getD (now v1) k (pos 0)) ≤ 5 * kappaOf s) × ((k : ℕ) → natAbs (getD (now v2) k (pos 0)) ≤ 5 * kappaOf s) ⌝ }
     ensures { λ r. ⌜ responded (r .outcome) (r .words) (now (z1 .exit)) (now (z2 .exit))
-        ≡ drawn s (now (a .entry)) (pair (now (y1 .entry)) (now (y2 .entry)))
-        (pair (zipWith (signed (not sign)) (now (y1 .entry)) (now (v1 .entry))) (zipWith (signed (not sign)) (now (y2 .entry)) (now (v2 .entry))))
-        (pair (now (v1 .entry)) (now (v2 .entry))) (now (thresholds .entry)) (now (words .entry)) (now (z1 .entry)) (now (z2 .entry)) ⌝ }
+        ≡ drawn s (record {
+          a = now (a .entry);
+          y = pair (now (y1 .entry)) (now (y2 .entry));
+          sign = sign;
+          thresholds = now (thresholds .entry);
+          words = now (words .entry);
+          old = pair (now (z1 .entry)) (now (z2 .entry));
+        })
+        (pair (now (v1 .entry)) (now (v2 .entry))) ⌝ }
 {
     let mut w1 = [0i16; Set::DIMENSION];
     let mut w2 = [0i16; Set::DIMENSION];
@@ -259,7 +279,7 @@ fn draw_for(
             words: words.len(),
         },
         Ending::Rejected(taken) => Response {
-            outcome: Outcome::Rejected,
+            outcome: Outcome::DrawRejected,
             words: taken,
         },
         Ending::Accepted(taken) => give(s, a, spectrum, y1, y2, &w1, &w2, taken, z1, z2),
@@ -270,7 +290,7 @@ fn draw_for(
 fn mask(y: &[i16], v: &[i16], sign: bool, z: &mut [i16])
     requires { ⌜ (length (now y) ≡ dimension) × (length (now v) ≡ dimension) × (length (now z) ≡ dimension) ⌝ }
     requires { ⌜ ((k : ℕ) → natAbs (getD (now y) k (pos 0)) + natAbs (getD (now v) k (pos 0)) < 32768) ⌝ }
-    ensures { λ _. ⌜ now (z .exit) ≡ zipWith (signed (not sign)) (now (y .entry)) (now (v .entry)) ⌝ }
+    ensures { λ _. ⌜ now (z .exit) ≡ zipWith (addedIf (not sign)) (now (y .entry)) (now (v .entry)) ⌝ }
 {
     vectors::copy(z, y);
     if sign {
@@ -281,7 +301,7 @@ fn mask(y: &[i16], v: &[i16], sign: bool, z: &mut [i16])
 }
 
 // kappa K minus the squared length of v, which is never negative.
-fn first_trial(s: Set, v1: &[i16], v2: &[i16]) -> u32
+pub fn first_trial(s: Set, v1: &[i16], v2: &[i16]) -> u32
     requires { ⌜ (length (now v1) ≡ dimension) × (length (now v2) ≡ dimension) × (squares (now v1) + squares (now v2) ≤ kappaOf s * keyLimitOf s) ⌝ }
     ensures { λ r. ⌜ r ≡ firstTrial s (pair (now (v1 .entry)) (now (v2 .entry))) ⌝ }
 {
@@ -290,7 +310,7 @@ fn first_trial(s: Set, v1: &[i16], v2: &[i16]) -> u32
 }
 
 // Twice the absolute value of the inner product of z and v.
-fn second_trial(z1: &[i16], z2: &[i16], v1: &[i16], v2: &[i16]) -> u32
+pub fn second_trial(z1: &[i16], z2: &[i16], v1: &[i16], v2: &[i16]) -> u32
     requires { ⌜ (length (now z1) ≡ dimension) × (length (now z2) ≡ dimension) × (length (now v1) ≡ dimension) × (length (now v2) ≡ dimension) ⌝ }
     requires { ⌜ sizes (now z1) (now v1) + sizes (now z2) (now v2) < 2 ^ 30 ⌝ }
     ensures { λ r. ⌜ r ≡ secondTrial (pair (now (z1 .entry)) (now (z2 .entry))) (pair (now (v1 .entry)) (now (v2 .entry))) ⌝ }
@@ -319,7 +339,8 @@ fn give(
     requires { ⌜ (length (now a) ≡ dimension) × (length (now w1) ≡ dimension) × (length (now w2) ≡ dimension) × (now spectrum ≡ spectrumOf (now a)) ⌝ }
     requires { ⌜ (length (now y1) ≡ dimension) × (length (now y2) ≡ dimension) × (length (now z1) ≡ dimension) × (length (now z2) ≡ dimension) ⌝ }
     ensures { λ r. ⌜ responded (r .outcome) (r .words) (now (z1 .exit)) (now (z2 .exit))
-        ≡ given s taken (now (w1 .entry)) (daggers s (sums (now (a .entry)) (now (y1 .entry)) (now (y2 .entry))) (now (w2 .entry))) (now (z1 .entry)) (now (z2 .entry)) ⌝ }
+        ≡ given s (pair (now (z1 .entry)) (now (z2 .entry))) taken
+        (pair (now (w1 .entry)) (daggers s (sums (now (a .entry)) (now (y1 .entry)) (now (y2 .entry))) (now (w2 .entry)))) ⌝ }
 {
     let mut t = [0u16; Set::DIMENSION];
     ring::multiply(a, spectrum, y1, &mut t);
@@ -346,8 +367,10 @@ fn make_daggers(s: Set, u: &[u32], z: &[i16], out: &mut [i8])
     requires { ⌜ (length (now u) ≡ dimension) × (length (now z) ≡ dimension) × (length (now out) ≡ dimension) × isReduced (now u) ⌝ }
     ensures { λ _. ⌜ now (out .exit) ≡ daggers s (now (u .entry)) (now (z .entry)) ⌝ }
 {
+    let d = s.d();
+    let p = s.p();
     for i in 0..Set::DIMENSION {
-        out[i] = rounding::dagger(s, u[i], z[i]);
+        out[i] = rounding::dagger(s, d, p, u[i], z[i]);
     }
 }
 

@@ -5,7 +5,7 @@ use mathlib.Core.List.{List}
 use Prim.Native.Nat.{ℕ, _+_, _^_, _<_, _≤_}
 use native.Mathlib.Omega.{arith}
 use lib.IntN.{ℤ, pos, natAbs}
-use lib.ListN.{length, getD, set}
+use lib.ListN.{length, getD, set as update}
 use lib.Signed.{mag}
 use mir.Syntax.{Width}
 use mir.Val.{SFits, hbits, toZ, ofZ}
@@ -35,7 +35,7 @@ module _ (o : ℤ → ℤ → ℤ) (v c : List ℤ) (same : length v ≡ length 
       combine-ok = operation-ok old (element w _ y) o small
 
       pub combine-more : Rewritten v (zipWith o v c) (i + 1)
-          (set now i (toZ w (ofZ w (o (toZ w (ofZ w (getD now i (pos 0)))) (toZ w (ofZ w (getD c i (pos 0))))))))
+          (update now i (toZ w (ofZ w (o (toZ w (ofZ w (getD now i (pos 0)))) (toZ w (ofZ w (getD c i (pos 0))))))))
       combine-more =
           more v (zipWith o v c) long so (pos 0) _ h
           (operation-is old (element w _ y) o small .back ∙ sym (getD-zipWith o v c i (pos 0) (pos 0) (pos 0) h (omega arith)))

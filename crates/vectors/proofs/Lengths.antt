@@ -6,16 +6,10 @@ use native.Mathlib.Nat.{mul-le-mul, mul-add}
 use native.Mathlib.Omega.{arith}
 use lib.IntN.{ℤ, pos, negℤ, natAbs}
 use lib.ListN.{take, drop, getD, take-append-drop}
-use Rattle.laws.proofs.Bounds.{abs-neg, le-square, product-le-squares, root-le}
+use Rattle.laws.proofs.Bounds.{abs-neg, le-square, root-le}
 use Rattle.vectors.specs.Vectors.{squares, sizes}
 
 -- ---- sizes
-pub sizes-le-squares : (x y : List ℤ) → sizes x y ≤ squares x + squares y
-unfolding sizes squares
-sizes-le-squares [] y = omega arith
-sizes-le-squares (a ∷ x) [] = omega arith
-sizes-le-squares (a ∷ x) (b ∷ y) = omega (arith, product-le-squares (natAbs a) (natAbs b), sizes-le-squares x y)
-
 -- |b| is at most its square
 pub sizes-le-times : (bound : ℕ) (x y : List ℤ) → ((k : ℕ) → natAbs (getD x k (pos 0)) ≤ bound) → sizes x y ≤ bound * squares y
 unfolding sizes squares

@@ -1,8 +1,8 @@
 -- Squared lengths and inner products, entry by entry, and what bounds them. Assumes nothing.
 use mathlib.Core.Path.{_≡_, sym, _∙_, ap}
-use mathlib.Core.List.{List, [], _∷_}
+use mathlib.Core.List.{List, [], _∷_, _++_}
 use Prim.Native.Nat.{ℕ, zero, suc, _+_, _*_, _<_, _≤_}
-use native.Mathlib.Nat.{not-suc-le-zero, le-of-suc-le-suc, mul-le-mul, mul-suc}
+use native.Mathlib.Nat.{not-suc-le-zero, le-of-suc-le-suc, suc-inj, suc-ne-zero, mul-le-mul, mul-suc}
 use native.Mathlib.Numerals.{add-one}
 use native.Mathlib.Omega.{arith}
 use lib.IntN.{ℤ, pos, natAbs, _+ℤ_, _*ℤ_, +ℤ-assoc, +ℤ-idl, +ℤ-idr}
@@ -32,6 +32,14 @@ inner-suc (a ∷ x) (b ∷ y) (suc i) h k =
 pub inner-more : (x y : List ℤ) (i : ℕ) → i < length x → i < length y
     → inner (take (i + 1) x) (take (i + 1) y) ≡ inner (take i x) (take i y) +ℤ getD x i (pos 0) *ℤ getD y i (pos 0)
 inner-more x y i h k = rw add-one (inner-suc x y i h k)
+
+-- ---- in parts
+pub inner-append : (a b c d : List ℤ) → length a ≡ length b → inner (a ++ c) (b ++ d) ≡ inner a b +ℤ inner c d
+unfolding inner
+inner-append [] [] c d e = sym (+ℤ-idl (inner c d))
+inner-append [] (y ∷ b) c d e = absurd (suc-ne-zero (length b) (sym e))
+inner-append (x ∷ a) [] c d e = absurd (suc-ne-zero (length a) e)
+inner-append (x ∷ a) (y ∷ b) c d e = ap (λ (z : ℤ). x *ℤ y +ℤ z) (inner-append a b c d (suc-inj e)) ∙ sym (+ℤ-assoc (x *ℤ y) _ _)
 
 -- ---- bounds
 pub squares-le : (bound : ℕ) (x : List ℤ) → ((k : ℕ) → natAbs (getD x k (pos 0)) ≤ bound) → squares x ≤ bound * bound * length x

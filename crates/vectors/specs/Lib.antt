@@ -1,3 +1,4 @@
 -- 01, "Key, commitment, response, rebuild": what is said there of vectors and of lists.
 pub mod Vectors
+pub mod Pairs
 pub mod Places

@@ -1,9 +1,18 @@
--- Ranges, squared lengths and inner products of vectors of whole numbers. The sum of two vectors is `zipWith _+ℤ_`, their difference `zipWith _-ℤ_`.
+-- Lengths, ranges, squared lengths and inner products of vectors of whole numbers. The sum of two vectors is `zipWith _+ℤ_`, their difference `zipWith _-ℤ_`.
 use mathlib.Core.Bool.{Bool}
 use mathlib.Core.List.{List, [], _∷_, _++_, map}
 use Prim.Native.Nat.{ℕ, _+_, _*_}
-use lib.Dec.{leb, ltb}
+use lib.Dec.{eqb, leb, ltb}
 use lib.IntN.{ℤ, pos, negℤ, natAbs, _+ℤ_, _*ℤ_}
+use lib.ListN.{length}
+use Rattle.sets.specs.Numbers.{dimension}
+
+-- whether a length is that of a polynomial
+abbrev pub isDimension : ℕ → Bool
+isDimension n = eqb n dimension
+
+abbrev pub sized : {A : Type 0} → List A → Bool
+sized x = isDimension (length x)
 
 -- whether x lies in - bound .. bound
 abbrev pub within : ℕ → ℤ → Bool

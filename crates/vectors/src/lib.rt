@@ -1,16 +1,15 @@
 // Vectors of whole numbers, and the form of a challenge list (01, "Key, commitment, response, rebuild").
-// A vector of bytes is widened first: everything else is for i16 alone. Sums and copies are loops with a fixed count and no branch, which the compiler
-// turns into instructions on several entries at a time.
+// A vector of bytes is widened first: everything else is for i16 alone. Sums and copies are loops with a fixed count and no branch, range tests loops that
+// are not left early, which the compiler turns into instructions on several entries at a time.
 ghost use mathlib.Core.Path.{_≡_};
 ghost use mathlib.Core.Bool.{true, _&&_};
 ghost use mathlib.Core.List.{map};
 ghost use Prim.Native.Nat.{ℕ, _+_, _*_, _^_, _<_};
-ghost use lib.Dec.{eqb};
 ghost use lib.IntN.{pos, negℤ, natAbs, _+ℤ_, _-ℤ_, _*ℤ_};
 ghost use lib.ListN.{length, getD};
 ghost use Rattle.laws.specs.Lists.{every, zipWith};
 ghost use Rattle.sets.specs.Numbers.{dimension};
-ghost use Rattle.vectors.specs.Vectors.{within, below, squares, inner, sizes, mirrored};
+ghost use Rattle.vectors.specs.Vectors.{isDimension, within, below, squares, inner, sizes, mirrored};
 ghost use Rattle.vectors.specs.Places.{rising, properList};
 use sets::Set;
 
@@ -18,7 +17,7 @@ use sets::Set;
 
 // Whether three, or four, lengths are 512.
 pub fn three_sized(x: usize, y: usize, z: usize) -> bool
-    ensures { λ r. ⌜ r ≡ eqb x dimension && (eqb y dimension && eqb z dimension) ⌝ }
+    ensures { λ r. ⌜ r ≡ isDimension x && (isDimension y && isDimension z) ⌝ }
 {
     if x != Set::DIMENSION {
         return false;
@@ -30,7 +29,7 @@ pub fn three_sized(x: usize, y: usize, z: usize) -> bool
 }
 
 pub fn four_sized(w: usize, x: usize, y: usize, z: usize) -> bool
-    ensures { λ r. ⌜ r ≡ eqb w dimension && (eqb x dimension && (eqb y dimension && eqb z dimension)) ⌝ }
+    ensures { λ r. ⌜ r ≡ isDimension w && (isDimension x && (isDimension y && isDimension z)) ⌝ }
 {
     if w != Set::DIMENSION {
         return false;
@@ -72,28 +71,30 @@ fn is_rising(list: &[u16]) -> bool
 pub fn all_below(a: &[u16], bound: u16) -> bool
     ensures { λ r. ⌜ r ≡ every (below bound) (now (a .entry)) ⌝ }
 {
+    let mut all = true;
     let mut i = 0;
     while i < a.len() {
         if bound <= a[i] {
-            return false;
+            all = false;
         }
         i += 1;
     }
-    true
+    all
 }
 
 // Whether every entry lies in - bound .. bound.
 pub fn all_within(x: &[i16], bound: u32) -> bool
     ensures { λ r. ⌜ r ≡ every (within bound) (now (x .entry)) ⌝ }
 {
+    let mut all = true;
     let mut i = 0;
     while i < x.len() {
         if bound < size(x[i]) {
-            return false;
+            all = false;
         }
         i += 1;
     }
-    true
+    all
 }
 
 // |x|, which is 2^15 for the least i16.

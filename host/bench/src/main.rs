@@ -1,12 +1,17 @@
 //! Measures the library's calls beside the second program's, in one run, as ratios; and counts
 //! the library's instructions with callgrind.
 
+mod bars;
+mod callgrind;
 mod work;
 
-use second::console::arguments;
 use second::testing::calls::Call;
-use second::{say, warn, Set};
-use std::process::{Command, ExitCode};
+use second::Set;
+use shell::console::arguments;
+use shell::options::{Form, Options};
+use shell::{say, warn};
+use std::path::PathBuf;
+use std::process::ExitCode;
 use std::time::{Duration, Instant};
 use work::{Side, Work, MEASURED};
 
@@ -17,6 +22,9 @@ bursztok-bench [--set N] [--milliseconds N]
 bursztok-bench --instructions [--set N] [--symbol NAME]
       Instructions per call, counted by callgrind (valgrind must be there) inside the library's
       exported call, or inside the function NAME wherever the call reaches it.
+bursztok-bench --bars PROGRAMS
+      Instructions of the calls and of the programs ring_bench and choices_bench in the folder
+      PROGRAMS, beside their bars and a peer's figures.
 bursztok-bench --run CALL --times N [--set N] [--second]
       Runs one call so many times and measures nothing; for callgrind.
 
@@ -24,7 +32,7 @@ CALL is key-test, commitment, response, rebuild, write or read. Each works on on
 key with the published counts; buffers are not cleared in between. The default of --milliseconds
 is 200 for each call and side.
 
-Exit status: 0 done, 1 no instructions counted, 2 bad usage.";
+Exit status: 0 done, 1 no instructions counted or a bar passed by more than 3 %, 2 bad usage.";
 
 /// What all inputs are made from.
 const SEED: u64 = 1;
@@ -33,15 +41,20 @@ const TURNS: u32 = 5;
 /// Whether the library runs in another process, under an emulator.
 const EMULATED: bool = !cfg!(target_arch = "x86_64");
 
-#[derive(Default)]
-struct Options {
-    set: Option<Set>,
-    milliseconds: Option<u64>,
-    instructions: bool,
-    symbol: Option<String>,
-    run: Option<Call>,
-    times: Option<u64>,
-    second: bool,
+const FORM: Form = Form {
+    name: "bench",
+    values: &["set", "milliseconds", "symbol", "bars", "run", "times"],
+    flags: &["instructions", "second"],
+    words: &[],
+};
+
+/// What is to be done.
+#[derive(Debug)]
+enum Task {
+    Measure(Vec<Set>, Duration),
+    Count(Vec<Set>, Option<String>),
+    Bars(PathBuf),
+    Run(Set, Side, Call, u64),
 }
 
 fn main() -> ExitCode {
@@ -51,84 +64,85 @@ fn main() -> ExitCode {
         return ExitCode::SUCCESS;
     }
     match parse(&words) {
-        Ok(options) => run(&options),
+        Ok(task) => run(task),
         Err(message) => {
-            warn!("bench: {message}; try --help");
+            warn!("{message}");
             ExitCode::from(2)
         }
     }
 }
 
-fn parse(words: &[String]) -> Result<Options, String> {
-    let mut options = Options::default();
-    let mut seen = Vec::new();
-    let mut words = words.iter();
-    while let Some(name) = words.next() {
-        if seen.contains(&name) {
-            return Err(format!("{name} is given twice"));
+fn parse(words: &[String]) -> Result<Task, String> {
+    let options = Options::parse(FORM, words)?;
+    let set = match options.number("set")? {
+        None => None,
+        Some(number) => {
+            let set = u32::try_from(number).ok().and_then(Set::stated);
+            Some(set.ok_or_else(|| options.fault(format!("--set is {number}, expected 1 to 4")))?)
         }
-        seen.push(name);
-        let mut value = || words.next().ok_or(format!("{name} wants a value"));
-        let number = |word: &String| {
-            word.parse::<u64>()
-                .map_err(|_| format!("{name} is '{word}', expected a whole number"))
-        };
-        match name.as_str() {
-            "--set" => {
-                let number = number(value()?)?;
-                let set = u32::try_from(number).ok().and_then(Set::stated);
-                options.set = Some(set.ok_or(format!("--set is {number}, expected 1 to 4"))?);
-            }
-            "--milliseconds" => options.milliseconds = Some(number(value()?)?),
-            "--instructions" => options.instructions = true,
-            "--symbol" => options.symbol = Some(value()?.clone()),
-            "--run" => {
-                let word = value()?;
-                let call = MEASURED.iter().find(|(_, name, _)| name == word);
-                options.run = Some(call.ok_or(format!("'{word}' is no call"))?.0);
-            }
-            "--times" => options.times = Some(number(value()?)?),
-            "--second" => options.second = true,
-            _ => return Err(format!("'{name}' is no option")),
+    };
+    let sets = set.map_or(Set::ALL.to_vec(), |set| vec![set]);
+    let tasks = [
+        options.has("instructions"),
+        options.given("bars").is_some(),
+        options.given("run").is_some(),
+    ];
+    if tasks.iter().filter(|given| **given).count() > 1 {
+        return Err(options.fault("--instructions, --bars and --run do not go together"));
+    }
+    if let Some(programs) = options.given("bars") {
+        return Ok(Task::Bars(PathBuf::from(programs)));
+    }
+    if options.has("instructions") {
+        let symbol = options.given("symbol").map(str::to_string);
+        return Ok(Task::Count(sets, symbol));
+    }
+    match (options.given("run"), options.number("times")?) {
+        (Some(word), Some(times)) => {
+            let call = MEASURED.iter().find(|(_, name, _)| *name == word);
+            let call = call
+                .ok_or_else(|| options.fault(format!("'{word}' is no call")))?
+                .0;
+            let side = if options.has("second") {
+                Side::Second
+            } else {
+                Side::Library
+            };
+            Ok(Task::Run(sets[0], side, call, times))
         }
+        (None, None) => {
+            let budget = options.number("milliseconds")?.unwrap_or(200);
+            Ok(Task::Measure(sets, Duration::from_millis(budget)))
+        }
+        _ => Err(options.fault("--run and --times go together")),
     }
-    if options.run.is_some() != options.times.is_some() {
-        return Err("--run and --times go together".to_string());
-    }
-    if options.run.is_some() && options.instructions {
-        return Err("--instructions and --run do not go together".to_string());
-    }
-    Ok(options)
 }
 
-fn run(options: &Options) -> ExitCode {
-    let sets = match options.set {
-        Some(set) => vec![set],
-        None => Set::ALL.to_vec(),
-    };
-    if let (Some(call), Some(times)) = (options.run, options.times) {
-        let side = if options.second {
-            Side::Second
-        } else {
-            Side::Library
-        };
-        let mut work = Work::new(sets[0], SEED);
-        for _ in 0..times {
-            work.run(side, call);
+fn run(task: Task) -> ExitCode {
+    match task {
+        Task::Run(set, side, call, times) => {
+            let mut work = Work::new(set, SEED);
+            for _ in 0..times {
+                work.run(side, call);
+            }
+            ExitCode::SUCCESS
         }
-        return ExitCode::SUCCESS;
+        Task::Bars(_) | Task::Count(..) if EMULATED => {
+            warn!("bench: the library runs under an emulator here; instructions need x86-64");
+            ExitCode::from(1)
+        }
+        Task::Bars(programs) => bars::hold(&programs),
+        Task::Count(sets, symbol) => count_instructions(&sets, symbol.as_deref()),
+        Task::Measure(sets, budget) => {
+            if EMULATED {
+                warn!("bench: the library runs under an emulator here, so its times say nothing");
+            }
+            for set in sets {
+                measure(set, budget);
+            }
+            ExitCode::SUCCESS
+        }
     }
-    if options.instructions {
-        return count_instructions(&sets, options.symbol.as_deref());
-    }
-    if EMULATED {
-        warn!("bench: the library runs under an emulator here, so its times say nothing");
-    }
-    let budget = Duration::from_millis(options.milliseconds.unwrap_or(200));
-    for set in sets {
-        measure(set, budget);
-    }
-    ExitCode::SUCCESS
 }
 
 fn measure(set: Set, budget: Duration) {
@@ -186,10 +200,6 @@ fn median(mut times: Vec<f64>) -> f64 {
 
 /// Runs this program under callgrind for every call, collecting inside one symbol only.
 fn count_instructions(sets: &[Set], symbol: Option<&str>) -> ExitCode {
-    if EMULATED {
-        warn!("bench: the library runs under an emulator here; instructions need x86-64");
-        return ExitCode::from(1);
-    }
     say!(
         "instructions a call, inside {}",
         symbol.unwrap_or("the exported call")
@@ -197,7 +207,7 @@ fn count_instructions(sets: &[Set], symbol: Option<&str>) -> ExitCode {
     let mut entered = false;
     for set in sets {
         for (_, name, exported) in MEASURED {
-            match instructions(*set, name, symbol.unwrap_or(exported)) {
+            match callgrind::inside(*set, name, symbol.unwrap_or(exported)) {
                 Ok(count) => {
                     entered |= count > 0;
                     say!("  set {}  {name:<11} {count:>12}", set.number());
@@ -216,45 +226,39 @@ fn count_instructions(sets: &[Set], symbol: Option<&str>) -> ExitCode {
     ExitCode::SUCCESS
 }
 
-/// Instructions a call, 0 where it never enters the symbol.
-fn instructions(set: Set, name: &str, symbol: &str) -> Result<u64, String> {
-    const TIMES: u64 = 4;
-    let this = std::env::current_exe().map_err(|error| error.to_string())?;
-    let output = Command::new("valgrind")
-        .args(["--tool=callgrind", "--callgrind-out-file=/dev/null"])
-        .arg(format!("--toggle-collect={symbol}"))
-        .arg(this)
-        .args(["--run", name, "--times", &TIMES.to_string()])
-        .args(["--set", &set.number().to_string()])
-        .output()
-        .map_err(|error| format!("valgrind cannot be run ({error}); no instructions counted"))?;
-    let said = String::from_utf8_lossy(&output.stderr);
-    let collected = said
-        .lines()
-        .filter_map(|line| line.split("Collected :").nth(1))
-        .next_back()
-        .and_then(|count| count.trim().parse::<u64>().ok());
-    match collected {
-        Some(count) if output.status.success() => Ok(count / TIMES),
-        _ => Err(format!("valgrind failed:\n{said}")),
-    }
-}
-
 #[cfg(test)]
 mod tests {
-    use super::parse;
+    use super::{parse, Task};
+
+    fn parsed(line: &str) -> Result<Task, String> {
+        let words: Vec<String> = line.split(' ').map(str::to_string).collect();
+        parse(&words)
+    }
+
+    #[test]
+    fn what_is_to_be_done() {
+        let one = |line: &str| format!("{:?}", parsed(line).unwrap());
+        assert_eq!(one("--set 1 --instructions"), "Count([I], None)");
+        assert_eq!(one("--bars bin"), "Bars(\"bin\")");
+        assert_eq!(
+            one("--run read --times 2 --set 3"),
+            "Run(III, Library, Read, 2)"
+        );
+        assert_eq!(one("--set=4 --milliseconds 5"), "Measure([IV], 5ms)");
+    }
 
     #[test]
     fn bad_usage_is_told() {
-        let fault = |line: &str| {
-            let words: Vec<String> = line.split(' ').map(str::to_string).collect();
-            parse(&words).err().unwrap_or_default()
+        let fault = |line: &str, said: &str| {
+            let told = parsed(line).unwrap_err();
+            assert_eq!(told, format!("bench: {said}; try --help"));
         };
-        assert_eq!(fault("--set 1 --instructions"), "");
-        assert_eq!(fault("--sets 1"), "'--sets' is no option");
-        assert_eq!(fault("--set 1 --set 1"), "--set is given twice");
-        assert_eq!(fault("--run read"), "--run and --times go together");
-        let both = "--instructions and --run do not go together";
-        assert_eq!(fault("--run read --times 1 --instructions"), both);
+        fault("--sets 1", "'--sets' is no option");
+        fault("--set 5", "--set is 5, expected 1 to 4");
+        fault("--run read", "--run and --times go together");
+        fault("--run reads --times 1", "'reads' is no call");
+        let both = "--instructions, --bars and --run do not go together";
+        fault("--run read --times 1 --instructions", both);
+        fault("--bars bin --instructions", both);
     }
 }

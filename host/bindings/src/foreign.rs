@@ -143,4 +143,8 @@ extern "C" {
         number: *mut u32,
         place: *mut u32,
     ) -> Part;
+
+    pub fn bursztok_kappa(set: u32) -> u32;
+
+    pub fn bursztok_record_bytes(set: u32) -> u32;
 }

@@ -1,10 +1,11 @@
 //! Safe bindings to `libbursztok.a`, the proved BLISS-B signing core.
 //!
-//! The ten calls of paper 01, with slices for the pointers and lengths of `bursztok.h`. Every call
+//! The ten calls of paper 01, with slices for the pointers and lengths of `bursztok.h`, and the two
+//! that tell a set's sizes. Every call
 //! answers on all input, slices of any length included; a refusal leaves every output slice with
 //! the contents it came with.
 
-mod foreign;
+pub mod foreign;
 #[cfg(target_arch = "x86_64")]
 mod linked;
 mod refusal;
@@ -142,6 +143,16 @@ pub fn z2_section(record: &[u8]) -> Section<'_> {
 /// The list bytes of a record: two a place, low byte first.
 pub fn list_section(record: &[u8]) -> Section<'_> {
     section(record, calls::list_section(record))
+}
+
+/// The places of a list of this set, 0 where the number stands for no set. 0 stands for set 1.
+pub fn kappa(set: u32) -> usize {
+    calls::kappa(set) as usize
+}
+
+/// The bytes of a record of this set, 0 where the number stands for no set. 0 stands for set 1.
+pub fn record_bytes(set: u32) -> usize {
+    calls::record_bytes(set) as usize
 }
 
 fn section(record: &[u8], (answer, part): (Answer, Part)) -> Section<'_> {

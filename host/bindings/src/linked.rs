@@ -158,3 +158,13 @@ fn section(record: &[u8], call: SectionCall) -> (Answer, Part) {
     let part = unsafe { call(record.as_ptr(), record.len(), &mut number, &mut place) };
     (Answer { number, place }, part)
 }
+
+pub fn kappa(set: u32) -> u32 {
+    // SAFETY: no pointer is passed.
+    unsafe { foreign::bursztok_kappa(set) }
+}
+
+pub fn record_bytes(set: u32) -> u32 {
+    // SAFETY: no pointer is passed.
+    unsafe { foreign::bursztok_record_bytes(set) }
+}

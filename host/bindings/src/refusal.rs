@@ -151,14 +151,61 @@ mod tests {
     }
 
     #[test]
-    fn the_papers_numbers_have_the_papers_words() {
-        for number in 1..=14 {
-            let refusal = Refusal::outcome(number, 0).unwrap_err();
-            assert_ne!(refusal.meaning(), "no answer of paper 01");
+    fn the_headers_numbers_are_the_papers() {
+        let header = include_str!("../../../include/bursztok.h");
+        let numbers = header.split("enum bursztok_number {").nth(1).unwrap();
+        let numbers = numbers.split("};").next().unwrap();
+        let values: Vec<&str> = numbers
+            .split(',')
+            .map(|line| line.split(" = ").nth(1).unwrap().trim())
+            .collect();
+        let wanted: Vec<String> = (0..=14).map(|number| number.to_string()).collect();
+        assert_eq!(values, wanted);
+        for (name, number) in [
+            ("DONE", 0),
+            ("KEY_RELATION", 6),
+            ("REJECTED", 8),
+            ("ENTRY", 10),
+            ("HEADER", 13),
+        ] {
+            assert!(numbers.contains(&format!("BURSZTOK_{name} = {number}")));
         }
+    }
+
+    /// "Numbers that come back", word for word.
+    const WORDS: [&str; 14] = [
+        "set above 4",
+        "a vector, read or written, isn't 512 long, thresholds not 31, or the reader's list \
+         buffer not 39",
+        "coefficient of f, g or a outside its range",
+        "mask coefficient outside -4,096 .. 4,096",
+        "list not of the stated form, its count included",
+        "key relation doesn't hold",
+        "key longer than K",
+        "rejected by the draw",
+        "the walk needs a word and none is left",
+        "entry beyond \"largest\", with the first place: z1 is 0 .. 511, z2 dagger 512 .. 1023",
+        "sum of squares above B2 squared",
+        "both lists are proper and differ",
+        "header malformed, with the first byte of the first wrong field; shorter than 24, its \
+         length",
+        "writer's output shorter than the total",
+    ];
+
+    #[test]
+    fn the_papers_numbers_have_the_papers_words() {
+        for (number, words) in (1..).zip(WORDS) {
+            let refusal = Refusal::outcome(number, 0).unwrap_err();
+            assert_eq!(refusal.meaning(), words);
+        }
+        assert_eq!(
+            Refusal::outcome(15, 0).unwrap_err().meaning(),
+            "no answer of paper 01"
+        );
         let entry = Refusal::Entry { place: 700 };
-        assert!(entry
-            .to_string()
-            .starts_with("number 10, place 700: entry beyond \"largest\""));
+        assert_eq!(
+            entry.to_string(),
+            format!("number 10, place 700: {}", WORDS[9])
+        );
     }
 }

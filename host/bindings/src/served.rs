@@ -185,3 +185,11 @@ fn section(call: u32, record: &[u8]) -> (Answer, Part) {
     let (answer, start, length) = ask(call, 0, false, &[record], &mut []);
     (answer, Part { start, length })
 }
+
+pub fn kappa(set: u32) -> u32 {
+    ask(11, set, false, &[], &mut []).0.number
+}
+
+pub fn record_bytes(set: u32) -> u32 {
+    ask(12, set, false, &[], &mut []).0.number
+}

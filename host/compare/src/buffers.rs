@@ -126,7 +126,7 @@ fn entry<T: PartialEq + std::fmt::Display>(name: &str, ours: &[T], theirs: &[T])
 #[cfg(test)]
 mod tests {
     use super::{difference, Left};
-    use crate::faults::right_input;
+    use crate::inputs::right_input;
     use second::testing::calls::{run, Call};
     use second::testing::keys;
     use second::testing::noise::Noise;
@@ -138,12 +138,13 @@ mod tests {
         let input = right_input(1, &keys::thin(), &mut noise);
         let right = Left::by(run, Call::Read, &input, 7);
         assert_eq!(difference(&right, &right), None);
-        let changes: [fn(&mut Left); 10] = [
+        let changes: [fn(&mut Left); 11] = [
             |left| left.answered.number += 1,
             |left| left.answered.place += 1,
             |left| left.answered.words += 1,
             |left| left.answered.set += 1,
             |left| left.answered.part.0 += 1,
+            |left| left.answered.size += 1,
             |left| left.buffers.rounded[3] ^= 1,
             |left| left.buffers.z1[0] ^= 1,
             |left| left.buffers.z2_dagger[300] ^= 1,

@@ -3,7 +3,8 @@
 //! draw; those above are drawn at random. A case is made from the run's seed and its number alone.
 
 use crate::buffers::{difference, Buffers, Left};
-use crate::faults::{faults_of, right_input};
+use crate::faults::faults_of;
+use crate::inputs::right_input;
 use crate::{library, walks};
 use second::record::{total, HEADER};
 use second::testing::calls::{self, Call, Input};
@@ -33,6 +34,8 @@ enum Planned {
     WordCounts { set: u32 },
     /// Walks through the draw's four steps that fail at every place in turn.
     Walks { set: u32 },
+    /// The sizes of every number from 0 to 300, and of numbers about powers of two.
+    Sizes,
 }
 
 /// What a case found: the answers, for the tally, and the failures.
@@ -68,6 +71,7 @@ impl Plan {
             planned.extend((0..3).map(|_| Planned::WordCounts { set }));
             planned.push(Planned::Walks { set });
         }
+        planned.push(Planned::Sizes);
         Plan {
             seed,
             planned,
@@ -78,6 +82,22 @@ impl Plan {
     /// The number of cases that are not drawn at random.
     pub fn planned(&self) -> u64 {
         self.planned.len() as u64
+    }
+
+    /// The planned cases that run this call.
+    pub fn about(&self, call: Call) -> Vec<u64> {
+        let about = |planned: &Planned| match planned {
+            Planned::Pair { call: run, .. } => *run == call,
+            Planned::HeaderByte { .. } | Planned::RecordLengths { .. } => {
+                Call::ON_RECORD.contains(&call)
+            }
+            Planned::WordCounts { .. } | Planned::Walks { .. } => call == Call::Respond,
+            Planned::Sizes => !call.has_number(),
+        };
+        let numbered = self.planned.iter().zip(0..);
+        numbered
+            .filter_map(|(planned, number)| about(planned).then_some(number))
+            .collect()
     }
 
     /// Runs the case of this number.
@@ -147,6 +167,19 @@ impl Plan {
                     found.compare(Call::Respond, &input);
                     input.words.pop();
                     found.compare(Call::Respond, &input);
+                }
+            }
+            Planned::Sizes => {
+                found.story = "sizes of sets".to_string();
+                let powers = (8..32).map(|place| 1u32 << place);
+                let about = powers.flat_map(|power| power - 1..=power + 4);
+                for set in (0..=300).chain(about).chain([u32::MAX]) {
+                    let input = Input {
+                        set,
+                        ..Input::default()
+                    };
+                    found.compare(Call::Kappa, &input);
+                    found.compare(Call::RecordBytes, &input);
                 }
             }
         }

@@ -4,6 +4,9 @@
 pub mod buffers;
 pub mod cases;
 pub mod faults;
+pub mod inputs;
 pub mod library;
+pub mod program;
+pub mod run;
 pub mod tally;
 pub mod walks;

@@ -40,6 +40,8 @@ pub fn run(call: Call, input: &Input, out: Outputs) -> Answered {
         Call::Z1Section => return section(&input.record, bursztok::z1_section),
         Call::Z2Section => return section(&input.record, bursztok::z2_section),
         Call::ListSection => return section(&input.record, bursztok::list_section),
+        Call::Kappa => return Answered::of_size(bursztok::kappa(*set)),
+        Call::RecordBytes => return Answered::of_size(bursztok::record_bytes(*set)),
     };
     answered(outcome)
 }

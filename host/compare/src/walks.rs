@@ -94,7 +94,7 @@ fn long_walk(admitted: &[u64], second: usize, noise: &mut Noise) -> Vec<u64> {
 mod tests {
     use super::{walks, THRESHOLD};
     use crate::buffers::Left;
-    use crate::faults::right_input;
+    use crate::inputs::right_input;
     use second::testing::calls::{run, Call};
     use second::testing::keys;
     use second::testing::noise::Noise;

@@ -3,17 +3,21 @@
 //! Key, noise and hash are the second program's; every call that signs or checks is the library's.
 
 use crate::arguments::Arguments;
-use crate::commands::{self, read_record, rebuild, record_of, Signature};
-use crate::failure::{Failure, Named};
-use crate::files::{joined, make_folder, read_bytes, text_of, write_bytes, write_folder};
+use crate::failure::{Failure, Named, Refused};
+use crate::record::{rebuild, record_of, Record, Signature};
+use crate::signer;
 use bursztok::{Challenge, Response, VECTOR};
-use second::console::print_error;
 use second::testing::hash::list_of;
 use second::testing::keys::{published, Key};
 use second::testing::noise::{thresholds, Noise};
-use second::testing::sheet::WORDS;
-use second::{say, Set};
-use std::path::{Path, PathBuf};
+use second::testing::sheet::{Try, WORDS};
+use second::Set;
+use shell::console::print_error;
+use shell::files::{make_folder, write_files};
+use shell::numbers::{joined, text_of};
+use shell::say;
+use std::path::Path;
+use std::process::ExitCode;
 use std::time::{Duration, Instant};
 
 /// The sheet, and the same with its figure changed.
@@ -21,74 +25,69 @@ const SHEET: &str = "Custody transfer 4711: 138,240.7 m3 of LNG at -161.2 C, ber
 const CHANGED_SHEET: &str =
     "Custody transfer 4711: 138,420.7 m3 of LNG at -161.2 C, berth 3, 06:40.";
 
-pub fn demo(arguments: &Arguments) -> Result<(), Failure> {
+pub fn demo(arguments: &Arguments) -> Result<ExitCode, Failure> {
     let number = arguments.number_or("set", 1)?;
     let set = u32::try_from(number)
         .ok()
-        .and_then(Set::stated)
-        .ok_or_else(|| Failure::usage(format!("demo: --set is {number}, expected 1 to 4")))?;
+        .and_then(|number| Set::asked(number).ok())
+        .ok_or_else(|| arguments.fault(format!("--set is {number}, expected 0 to 4")))?;
     let seed = arguments.number_or("seed", 1)?;
     let sheets = arguments.number_or("sheets", 0)?;
-    let asked = arguments.given("folder");
-    if let Some(folder) = asked {
-        make_folder(Path::new(folder))?;
+    let folder = arguments.given("folder").map(Path::new);
+    if let Some(folder) = folder {
+        make_folder(folder)?;
     }
     let mut noise = Noise::new(seed);
 
+    let number = set.number();
     say!("The main job end to end, with set {number} and seed {seed}.\n");
     let key = make_key(set, &mut noise)?;
     let signed = sign_aloud(set, &key, &mut noise)?;
-    let record = hand_over(set, &signed, asked)?;
+    let record = hand_over(set, &signed)?;
     let signature = check_aloud(set, &key, &record, &signed.committed)?;
     show_damage(set, &key, &record, &signature)?;
     if sheets > 0 {
-        sign_and_check_many(set, &key, sheets, &mut noise)?;
+        say!("\n6. {sheets} sheets more, each signed, written, read and checked.");
+        let start = Instant::now();
+        let sign = |sheet: &str| sign_one(set, &key, sheet, &mut noise);
+        let tries = sign_and_check_many(set, &key, sheets, sign)?;
+        let seconds = start.elapsed().as_secs_f64();
+        say!("   All {sheets} hold; {tries} tries, {seconds:.1} seconds.");
     }
-    if let Some(folder) = asked {
-        let files = vec![
-            ("f.txt", text_of("f", &key.f)),
-            ("g.txt", text_of("g", &key.g)),
-            ("a.txt", text_of("a", &key.a)),
-            ("sheet.txt", SHEET.into()),
-        ];
-        write_folder(Path::new(folder), files)?;
-        say!("\nThe key, the sheet and its record are in {folder}.");
+    if let Some(folder) = folder {
+        keep(folder, &key, &signed, &record)?;
+        let folder = folder.display();
+        say!(
+            "\nThe sheet (sheet.txt), its record (sheet.record), the key and what the signing took"
+        );
+        say!("are in {folder}. Sign it again, and check it, with:");
+        say!("  bursztok sign --set {number} --folder {folder} --record {folder}/again.record");
+        say!("  bursztok check --a {folder}/a.txt --record {folder}/again.record \\");
+        say!("    --hash 'bursztok-second hash {number}' --sheet {folder}/sheet.txt");
     }
     say!("\nDone: the sheet signed on the ship holds on the shore.");
+    Ok(ExitCode::SUCCESS)
+}
+
+/// Everything that signing takes and gives, as 'bursztok sign --folder' takes it.
+fn keep(folder: &Path, key: &Key, signed: &Signed, record: &[u8]) -> Result<(), Failure> {
+    let text = |name: &str, bytes: Vec<u8>| (folder.join(name), bytes);
+    let last = &signed.last_try;
+    write_files(&[
+        text("f.txt", text_of("f", &key.f)),
+        text("g.txt", text_of("g", &key.g)),
+        text("a.txt", text_of("a", &key.a)),
+        text("y1.txt", text_of("y1", &last.y1)),
+        text("y2.txt", text_of("y2", &last.y2)),
+        text("list.txt", text_of("list", &last.list)),
+        text("sign.txt", text_of("sign", &[u8::from(last.sign)])),
+        text("thresholds.txt", text_of("thresholds", &last.thresholds)),
+        text("words.txt", text_of("words", &last.words)),
+        text("commitment.txt", text_of("commitment", &signed.committed)),
+        text("sheet.txt", SHEET.into()),
+        text("sheet.record", record.to_vec()),
+    ])?;
     Ok(())
-}
-
-/// Where the record is handed over: the folder asked for, or one that goes again.
-struct Folder {
-    path: PathBuf,
-    kept: bool,
-}
-
-impl Folder {
-    fn new(asked: Option<&str>) -> Result<Folder, Failure> {
-        let Some(path) = asked.map(PathBuf::from) else {
-            return Folder::passing();
-        };
-        make_folder(&path)?;
-        Ok(Folder { path, kept: true })
-    }
-
-    fn passing() -> Result<Folder, Failure> {
-        let name = format!("bursztok-demo-{}", std::process::id());
-        let path = std::env::temp_dir().join(name);
-        std::fs::create_dir(&path)
-            .map_err(|error| Failure::usage(format!("{}: {error}", path.display())))?;
-        Ok(Folder { path, kept: false })
-    }
-}
-
-impl Drop for Folder {
-    fn drop(&mut self) {
-        if !self.kept {
-            // A folder left behind does no harm.
-            let _ = std::fs::remove_dir_all(&self.path);
-        }
-    }
 }
 
 fn make_key(set: Set, noise: &mut Noise) -> Result<Key, Failure> {
@@ -102,9 +101,9 @@ fn make_key(set: Set, noise: &mut Noise) -> Result<Key, Failure> {
 
 struct Signed {
     committed: Vec<u16>,
+    last_try: Try,
     z1: Vec<i16>,
     z2_dagger: Vec<i8>,
-    list: Vec<u16>,
 }
 
 /// One try of signing with new masks: the commitment and list, and the response to them.
@@ -118,24 +117,32 @@ fn try_to_sign(
     let mut committed = vec![0; VECTOR];
     bursztok::commitment(set.number(), &key.a, &y1, &y2, &mut committed).named("commitment")?;
     let list = list_of(set, &committed, sheet.as_bytes());
+    let last_try = Try {
+        y1,
+        y2,
+        list,
+        sign: noise.bit(),
+        thresholds: thresholds(set),
+        words: noise.words(WORDS),
+    };
     let (mut z1, mut z2_dagger) = (vec![0; VECTOR], vec![0; VECTOR]);
     let challenge = Challenge {
         f: &key.f,
         g: &key.g,
         a: &key.a,
-        y1: &y1,
-        y2: &y2,
-        list: &list,
-        sign: noise.bit(),
-        thresholds: &thresholds(set),
-        words: &noise.words(WORDS),
+        y1: &last_try.y1,
+        y2: &last_try.y2,
+        list: &last_try.list,
+        sign: last_try.sign,
+        thresholds: &last_try.thresholds,
+        words: &last_try.words,
     };
     let response = bursztok::respond(set.number(), challenge, &mut z1, &mut z2_dagger);
     let signed = Signed {
         committed,
+        last_try,
         z1,
         z2_dagger,
-        list,
     };
     Ok((signed, response))
 }
@@ -145,7 +152,7 @@ fn given_out(response: Response) -> Result<bool, Failure> {
     match response.outcome {
         Ok(()) => Ok(true),
         Err(refusal) if [8, 10, 11].contains(&refusal.number()) => Ok(false),
-        Err(_) => commands::given_out(response).map(|()| true),
+        Err(_) => signer::given_out(response).map(|()| true),
     }
 }
 
@@ -159,7 +166,7 @@ fn sign_aloud(set: Set, key: &Key, noise: &mut Noise) -> Result<Signed, Failure>
             joined(&signed.committed[..12])
         );
         say!("   A test hash of commitment and sheet makes the list:");
-        say!("   {}", joined(&signed.list));
+        say!("   {}", joined(&signed.last_try.list));
         if given_out(response)? {
             say!(
                 "   The response is given out; its draw took {} words.",
@@ -175,18 +182,22 @@ fn sign_aloud(set: Set, key: &Key, noise: &mut Noise) -> Result<Signed, Failure>
     unreachable!("tries have no end")
 }
 
-fn hand_over(set: Set, signed: &Signed, asked: Option<&str>) -> Result<Vec<u8>, Failure> {
-    let record = record_of(set.number(), &signed.z1, &signed.z2_dagger, &signed.list)?;
-    let folder = Folder::new(asked)?;
-    let path = folder.path.join("sheet.record");
-    write_bytes(&path, &record)?;
-    let handed = read_bytes(&path)?;
-    // Output that cannot be written ends the run, so the folder goes before anything is said.
-    drop(folder);
-    say!("3. The ship writes the record, {} bytes:", record.len());
-    say!("   {}", path.display());
-    say!("   and hands it to the shore.\n");
-    Ok(handed)
+fn hand_over(set: Set, signed: &Signed) -> Result<Vec<u8>, Failure> {
+    let record = record_of_try(set, signed)?;
+    say!(
+        "3. The ship writes the record, {} bytes, and hands it to the shore.\n",
+        record.len()
+    );
+    Ok(record)
+}
+
+fn record_of_try(set: Set, signed: &Signed) -> Result<Vec<u8>, Failure> {
+    let list = &signed.last_try.list;
+    record_of(set.number(), &signed.z1, &signed.z2_dagger, list)
+}
+
+fn read_record(record: &[u8]) -> Result<Signature, Failure> {
+    Record::of("the record", record.to_vec()).read()
 }
 
 /// The shore's check of a signature for a sheet.
@@ -248,7 +259,7 @@ fn show_damage(set: Set, key: &Key, record: &[u8], signature: &Signature) -> Res
 
 fn show(damage: &str, expected: u32, outcome: Result<(), Failure>) -> Result<(), Failure> {
     match outcome {
-        Err(Failure::Refused { call, refusal, .. }) if refusal.number() == expected => {
+        Err(Failure::Refused(Refused { call, refusal, .. })) if refusal.number() == expected => {
             say!(
                 "   - {damage}: the {call} refuses with number {expected}, place {}:",
                 refusal.place()
@@ -261,31 +272,96 @@ fn show(damage: &str, expected: u32, outcome: Result<(), Failure>) -> Result<(),
     }
 }
 
-fn sign_and_check_many(set: Set, key: &Key, sheets: u64, noise: &mut Noise) -> Result<(), Failure> {
-    say!("\n6. {sheets} sheets more, each signed, written, read and checked.");
-    let start = Instant::now();
-    let mut shown = Instant::now();
-    let mut tries = 0u64;
+/// Signs a sheet, with as many tries as it takes, and writes its record.
+fn sign_one(
+    set: Set,
+    key: &Key,
+    sheet: &str,
+    noise: &mut Noise,
+) -> Result<(Vec<u8>, u64), Failure> {
+    let mut tries = 0;
+    loop {
+        tries += 1;
+        let (signed, response) = try_to_sign(set, key, sheet, noise)?;
+        if given_out(response)? {
+            return Ok((record_of_try(set, &signed)?, tries));
+        }
+    }
+}
+
+/// Has so many sheets signed, and checks each record. Gives the count of tries.
+fn sign_and_check_many(
+    set: Set,
+    key: &Key,
+    sheets: u64,
+    mut sign: impl FnMut(&str) -> Result<(Vec<u8>, u64), Failure>,
+) -> Result<u64, Failure> {
+    let (mut shown, mut progress) = (Instant::now(), false);
+    let mut tries = 0;
     for done in 0..sheets {
         let sheet = format!("{SHEET} Sheet {done}.");
-        let signed = loop {
-            tries += 1;
-            let (signed, response) = try_to_sign(set, key, &sheet, noise)?;
-            if given_out(response)? {
-                break signed;
-            }
-        };
-        let record = record_of(set.number(), &signed.z1, &signed.z2_dagger, &signed.list)?;
+        let (record, taken) = sign(&sheet)?;
+        tries += taken;
         check(set, key, &read_record(&record)?, &sheet)?;
         if shown.elapsed() > Duration::from_millis(500) {
-            shown = Instant::now();
+            (shown, progress) = (Instant::now(), true);
             print_error(format_args!("\r   {} of {sheets} ", done + 1));
         }
     }
-    print_error(format_args!("\r{:30}\r", ""));
-    say!(
-        "   All {sheets} hold; {tries} tries, {:.1} seconds.",
-        start.elapsed().as_secs_f64()
-    );
-    Ok(())
+    if progress {
+        print_error(format_args!("\r{:30}\r", ""));
+    }
+    Ok(tries)
+}
+
+#[cfg(test)]
+mod tests {
+    use super::{show, sign_and_check_many, sign_one};
+    use crate::failure::Failure;
+    use second::testing::keys::published;
+    use second::testing::noise::Noise;
+    use second::Set;
+
+    /// The number that many sheets end with, where the third record is made from the right one.
+    fn ends_with(change: impl Fn(&mut Vec<u8>), other_sheet: bool) -> (u64, Option<u32>) {
+        let mut noise = Noise::new(5);
+        let key = published(Set::II, &mut noise);
+        let mut count = 0;
+        let outcome = sign_and_check_many(Set::II, &key, 5, |sheet| {
+            count += 1;
+            let third = count == 3;
+            let sheet = if third && other_sheet {
+                "another"
+            } else {
+                sheet
+            };
+            let (mut record, tries) = sign_one(Set::II, &key, sheet, &mut noise)?;
+            if third {
+                change(&mut record);
+            }
+            Ok((record, tries))
+        });
+        let number = match outcome {
+            Ok(_) => None,
+            Err(Failure::Refused(refused)) => Some(refused.refusal.number()),
+            Err(other) => panic!("{other}"),
+        };
+        (count, number)
+    }
+
+    #[test]
+    fn every_sheet_of_many_is_checked() {
+        assert_eq!(ends_with(|_| {}, false), (5, None));
+        assert_eq!(ends_with(|_| {}, true), (3, Some(12)));
+        assert_eq!(ends_with(|record| record[2] ^= 1, false), (3, Some(13)));
+    }
+
+    #[test]
+    fn damage_that_is_not_refused_is_a_fault() {
+        let outcome = show("nothing", 13, Ok(()));
+        assert!(matches!(outcome, Err(Failure::Fault(_))));
+        let other = bursztok::Refusal::List;
+        let outcome = show("nothing", 13, Err(Failure::refused("reader", other)));
+        assert!(matches!(outcome, Err(Failure::Refused(_))));
+    }
 }

@@ -1,5 +1,6 @@
 //! How a run fails, and the exit status that says so.
 
+use crate::json::Value;
 use bursztok::Refusal;
 use std::fmt;
 use std::process::ExitCode;
@@ -7,18 +8,25 @@ use std::process::ExitCode;
 #[derive(Debug, PartialEq, Eq)]
 pub enum Failure {
     /// A call refused: exit status 1.
-    Refused {
-        call: &'static str,
-        refusal: Refusal,
-        /// The words that the draw took, where the call has a draw.
-        words: Option<u64>,
-        /// The files of a wrong count, with number 2.
-        counts: Vec<String>,
-    },
+    Refused(Refused),
+    /// What was given does not belong together, though no call refused: exit status 1.
+    Differs(String),
     /// The library answered what it must not: exit status 1.
     Fault(String),
     /// Bad usage or a bad file: exit status 2.
     Usage(String),
+}
+
+#[derive(Debug, PartialEq, Eq)]
+pub struct Refused {
+    pub call: &'static str,
+    pub refusal: Refusal,
+    /// The set that was asked for, or that the record states; 0 where none is known.
+    pub set: u32,
+    /// The words that the draw took, where the call has a draw.
+    pub words: Option<u64>,
+    /// The files at fault, and how, as far as the call tells it.
+    pub causes: Vec<String>,
 }
 
 impl Failure {
@@ -27,52 +35,87 @@ impl Failure {
     }
 
     pub fn refused(call: &'static str, refusal: Refusal) -> Failure {
-        Failure::Refused {
+        Failure::Refused(Refused {
             call,
             refusal,
+            set: 0,
             words: None,
-            counts: Vec::new(),
-        }
+            causes: Vec::new(),
+        })
     }
 
-    /// With the files whose counts are wrong, where a wrong length is why a call refused.
-    pub fn with_counts(mut self, wrong: &[String]) -> Failure {
-        if let Failure::Refused {
-            refusal: Refusal::Length,
-            counts,
-            ..
-        } = &mut self
-        {
-            counts.extend_from_slice(wrong);
+    /// The same with what is found out about the refusal, if it is one.
+    pub fn with(mut self, explain: impl FnOnce(&mut Refused)) -> Failure {
+        if let Failure::Refused(refused) = &mut self {
+            explain(refused);
         }
         self
     }
 
-    pub fn exit_code(&self) -> ExitCode {
+    pub fn status(&self) -> u8 {
         match self {
-            Failure::Refused { .. } | Failure::Fault(_) => ExitCode::from(1),
-            Failure::Usage(_) => ExitCode::from(2),
+            Failure::Refused(_) | Failure::Differs(_) | Failure::Fault(_) => 1,
+            Failure::Usage(_) => 2,
         }
+    }
+
+    pub fn exit_code(&self) -> ExitCode {
+        ExitCode::from(self.status())
+    }
+
+    /// The fields of a JSON answer.
+    pub fn fields(&self) -> Vec<(&'static str, Value)> {
+        let text = |text: &str| Value::Text(text.to_string());
+        let number = |number: u32| Value::Number(number.into());
+        match self {
+            Failure::Refused(refused) => vec![
+                ("call", text(refused.call)),
+                ("number", number(refused.refusal.number())),
+                ("place", number(refused.refusal.place())),
+                ("meaning", text(refused.refusal.meaning())),
+                ("words", refused.words.map_or(Value::Null, Value::Number)),
+                ("set", number(refused.set)),
+                ("cause", Value::Text(refused.causes.join("; "))),
+            ],
+            Failure::Differs(message) | Failure::Fault(message) | Failure::Usage(message) => vec![
+                ("call", Value::Null),
+                ("number", Value::Null),
+                ("place", Value::Null),
+                ("meaning", Value::Null),
+                ("words", Value::Null),
+                ("set", Value::Null),
+                ("cause", text(message)),
+            ],
+        }
+    }
+}
+
+impl From<String> for Failure {
+    fn from(message: String) -> Failure {
+        Failure::Usage(message)
     }
 }
 
 impl fmt::Display for Failure {
     fn fmt(&self, out: &mut fmt::Formatter<'_>) -> fmt::Result {
         match self {
-            Failure::Refused {
-                call,
-                refusal,
-                words,
-                counts,
-            } => {
-                write!(out, "{call} refused with {refusal}")?;
-                if let Some(words) = words {
-                    write!(out, " ({words} words taken)")?;
-                }
-                counts.iter().try_for_each(|count| write!(out, "; {count}"))
-            }
+            Failure::Refused(refused) => refused.fmt(out),
             Failure::Fault(message) => write!(out, "a fault of the library: {message}"),
-            Failure::Usage(message) => out.write_str(message),
+            Failure::Differs(message) | Failure::Usage(message) => out.write_str(message),
+        }
+    }
+}
+
+/// The causes first, since they name the files; then the call's own words.
+impl fmt::Display for Refused {
+    fn fmt(&self, out: &mut fmt::Formatter<'_>) -> fmt::Result {
+        for cause in &self.causes {
+            write!(out, "{cause}\n  ")?;
+        }
+        write!(out, "{} refused with {}", self.call, self.refusal)?;
+        match self.words {
+            Some(words) => write!(out, " ({words} words taken)"),
+            None => Ok(()),
         }
     }
 }

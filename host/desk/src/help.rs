@@ -3,22 +3,29 @@
 pub const OVERVIEW: &str = "\
 bursztok: signs and checks cargo sheets with BLISS-B, sets I to IV
 
-  bursztok demo      the main job end to end, with a test key
-  bursztok key-test  test a key
-  bursztok commit    commit to masks
-  bursztok sign      answer a list and write the record
-  bursztok check     read a record, rebuild the commitment, compare the lists
-  bursztok write     write a record from z1, z2 dagger and a list
-  bursztok read      read a record into z1, z2 dagger and its list
-  bursztok inspect   show a record with its header and sections
+  bursztok demo        the main job end to end, with a test key
+  bursztok key-test    test a key
+  bursztok commit      commit to masks
+  bursztok sign        answer a list and write the record
+  bursztok check       check a record against a sheet
+  bursztok rebuild     read a record and rebuild the commitment, with no verdict on a sheet
+  bursztok write       write a record from z1, z2 dagger and a list
+  bursztok read        read a record into z1, z2 dagger and its list
+  bursztok inspect     show records with their headers and sections
+  bursztok completion  print completion for a shell
 
-Each has --help. Vectors are text files: whole numbers between white space, '#' starts a comment.
-Records are binary files. Noise and hash are yours: masks, words, thresholds and lists come from
-files. For trials bursztok-second (host/second) makes them, with test keys; they are for tests only.
+Each has --help, also as 'bursztok help SUBCOMMAND'; bursztok --version tells the version. Vectors
+are text files: whole numbers between white space, '#' starts a comment. Records are binary files.
+'-' is standard input for a file that is read and standard output for one that is written; what is
+said then goes to standard error. Noise and hash are yours: masks, words, thresholds and lists come
+from files. For trials bursztok-second makes them, with test keys; they are for tests only.
 Sets are 1 to 4; 0 stands for set 1. A file is written whole or not at all: first as FILE.part
 beside it, then renamed.
 
-Exit status: 0 done; 1 refused, with number, place and meaning; 2 bad usage or a bad file.";
+Exit status: 0 done; 1 refused, with the file, the cause, number, place and meaning; 2 bad usage or
+a bad file. With --json the answer is one line on standard output, an object with status, call,
+number, place, meaning, words (those that the draw took), set and cause; number and place are null
+where no call answered.";
 
 pub const DEMO: &str = "\
 bursztok demo [--set N] [--seed N] [--sheets N] [--folder DIR]
@@ -27,23 +34,25 @@ Makes a test key, signs a sheet on the ship, hands the record over, checks it on
 shows damaged records refused. The key, the masks and the hash are the second program's, for tests
 only; everything that signs and checks is the library's.
 
-  --set N       the parameter set, 1 to 4 (default 1)
+  --set N       the parameter set, 1 to 4, or 0 for set 1 (default 1)
   --seed N      what key and noise are made from (default 1)
   --sheets N    then sign and check so many sheets more, with progress (default 0)
-  --folder DIR  keep the sheet's record and the text files of this run there";
+  --folder DIR  keep the sheet, its record and the text files of this run there: all that
+                'bursztok sign --folder DIR' takes";
 
 pub const KEY_TEST: &str = "\
-bursztok key-test --set N (--folder DIR | --f FILE --g FILE --a FILE)
+bursztok key-test --set N (--folder DIR | --f FILE --g FILE --a FILE) [--json]
 
 Tests a key: ranges, squared length at most K, a times f = 2g + 1 modulo 12289.
 Refusals in order: 1, 2, 3, 7, 6.
 
   --set N             the parameter set
   --folder DIR        holds f.txt, g.txt and a.txt
-  --f, --g, --a FILE  name a file of its own";
+  --f, --g, --a FILE  name a file of its own
+  --json              the answer as JSON";
 
 pub const COMMIT: &str = "\
-bursztok commit --set N (--folder DIR | --a FILE --y1 FILE --y2 FILE) --out FILE
+bursztok commit --set N (--folder DIR | --a FILE --y1 FILE --y2 FILE) --out FILE [--json]
 
 Commits to masks and writes the 512 numbers to hash with the sheet.
 Refusals in order: 1, 2, 3, 4.
@@ -51,10 +60,11 @@ Refusals in order: 1, 2, 3, 4.
   --set N               the parameter set
   --folder DIR          holds a.txt, y1.txt and y2.txt
   --a, --y1, --y2 FILE  name a file of its own
-  --out FILE            where the commitment goes";
+  --out FILE            where the commitment goes
+  --json                the answer as JSON";
 
 pub const SIGN: &str = "\
-bursztok sign --set N (--folder DIR | --f FILE --g FILE ..) --record FILE
+bursztok sign --set N (--folder DIR | --f FILE --g FILE ..) --record FILE [--json]
 
 Answers a list for the masks that it was hashed from, and writes the record.
 Refusals in order: 1, 2, 3, 4, 5, 7, 6, then 8 or 9 as the walk ends, then 10, 11.
@@ -65,40 +75,71 @@ With 8, 10 or 11 start again with new masks; with 9 lend more words.
   --f, --g, --a, --y1, --y2, --list, --thresholds, --words FILE
                    name a file of its own
   --sign BIT       the sign bit, 0 or 1
-  --record FILE    where the record goes";
+  --record FILE    where the record goes
+  --json           the answer as JSON";
 
 pub const CHECK: &str = "\
-bursztok check --a FILE --record FILE [--rebuilt FILE] [--hashed FILE]
+bursztok check --a FILE --record FILE --hash COMMAND --sheet FILE [--json]
+bursztok check --a FILE --record FILE --rebuilt FILE --hashed FILE [--json]
 
-Reads a record and rebuilds what its signer committed to. The hash is yours: take the rebuilt
-vector, hash it with the sheet, and give the list with --hashed to have it compared. The list has
-to be hashed anew from the rebuilt vector and the sheet, never taken from the signer: else equal
-lists say nothing. With a refusal nothing is written.
+Reads a record, rebuilds what its signer committed to, and compares the list in the record with the
+one that is hashed from the rebuilt vector and the sheet. Exit status 0 says that they are the same.
 Refusals in order: reader 13, 5, 10, 11; rebuild 2, 3; comparison 5, 12.
+
+The hash is yours. With --hash it is run here, by sh: COMMAND gets the rebuilt vector on its
+standard input, 512 entries of two bytes, low byte first, then the sheet, and has BURSZTOK_SET in
+its environment; it answers with the list as text. With --hashed it has been run elsewhere: the
+list was hashed from the sheet and the file --rebuilt, which 'bursztok rebuild' wrote, and a file
+that is not what the record rebuilds to is refused. A list that comes from the signer says nothing.
 
   --a FILE        the public key
   --record FILE   the record
-  --rebuilt FILE  where the rebuilt vector goes
-  --hashed FILE   the list that you hashed from the rebuilt vector and the sheet";
+  --hash COMMAND  the command that hashes
+  --sheet FILE    the sheet
+  --rebuilt FILE  the rebuilt vector, as 'bursztok rebuild' wrote it
+  --hashed FILE   the list that you hashed from --rebuilt and the sheet
+  --json          the answer as JSON";
+
+pub const REBUILD: &str = "\
+bursztok rebuild --a FILE --record FILE --out FILE [--json]
+
+Reads a record and writes the vector that its signer committed to. That says nothing of a sheet:
+hash the vector with the sheet, and let 'bursztok check' compare.
+Refusals in order: reader 13, 5, 10, 11; rebuild 2, 3.
+
+  --a FILE       the public key
+  --record FILE  the record
+  --out FILE     where the rebuilt vector goes
+  --json         the answer as JSON";
 
 pub const WRITE: &str = "\
-bursztok write --set N (--folder DIR | --z1 FILE --z2 FILE --list FILE) --record FILE
+bursztok write --set N (--folder DIR | --z1 FILE --z2 FILE --list FILE) --record FILE [--json]
 
 Writes a record. Refusals in order: 1, 2, 5, 10, 11.
 
   --set N                  the parameter set; 0 is written as 1
   --folder DIR             holds z1.txt, z2.txt and list.txt
   --z1, --z2, --list FILE  name a file of its own
-  --record FILE            where the record goes";
+  --record FILE            where the record goes
+  --json                   the answer as JSON";
 
 pub const READ: &str = "\
-bursztok read --record FILE --folder DIR
+bursztok read --record FILE --folder DIR [--json]
 
 Reads a record and writes z1.txt, z2.txt and list.txt to DIR.
 Refusals in order: 13, 5, 10, 11.";
 
 pub const INSPECT: &str = "\
+bursztok inspect FILE.. [--json]
 bursztok inspect --record FILE
 
-Shows the header field by field, where each section lies and what it holds, and the reader's
-answer. Refusals: the reader's, 13, 5, 10, 11.";
+Shows the header of a record field by field, where each section lies and what it holds, and the
+reader's answer; what the reader refused is marked. Several records get a line each, and a total.
+Refusals: the reader's, 13, 5, 10, 11. Exit status 1 where any record was refused, 2 where any
+could not be opened.";
+
+pub const COMPLETION: &str = "\
+bursztok completion bash
+
+Prints completion of subcommands, options and file names for bash:
+  source <(bursztok completion bash)";

@@ -1,117 +1,100 @@
 //! The desk's tool.
 
+mod answer;
 mod arguments;
-mod commands;
+mod causes;
+mod checker;
+mod completion;
 mod demo;
 mod failure;
-mod files;
+mod hash;
+mod header;
 mod help;
 mod inspect;
+mod json;
+mod lent;
+mod record;
+mod records;
+mod signer;
+mod subcommands;
 
+use answer::json_of;
 use arguments::Arguments;
 use failure::Failure;
-use second::console;
-use second::{say, warn};
+use shell::console::{self, shown};
+use shell::options::Options;
+use shell::{say, warn};
 use std::process::ExitCode;
+use subcommands::{Run, Subcommand, SUBCOMMANDS};
 
 fn main() -> ExitCode {
     let words = console::arguments();
-    match run(&words) {
-        Ok(()) => ExitCode::SUCCESS,
-        Err(failure) => {
-            warn!("bursztok: {failure}");
-            failure.exit_code()
+    let json = words.iter().any(|word| word == "--json");
+    run(&words).unwrap_or_else(|failure| {
+        if json {
+            let code = failure.exit_code();
+            say!("{}", json_of(&Err(failure)));
+            return code;
         }
-    }
+        tell(failure)
+    })
 }
 
-fn run(words: &[String]) -> Result<(), Failure> {
+fn tell(failure: Failure) -> ExitCode {
+    warn!("bursztok: {failure}");
+    failure.exit_code()
+}
+
+fn run(words: &[String]) -> Result<ExitCode, Failure> {
     let Some((name, rest)) = words.split_first() else {
         return Err(Failure::usage("a subcommand is missing; try --help"));
     };
-    if ["--help", "-h", "help"].contains(&name.as_str()) {
-        say!("{}", help::OVERVIEW);
-        return Ok(());
+    match (name.as_str(), rest) {
+        ("--version" | "-V" | "version", _) => {
+            say!("bursztok {}", env!("CARGO_PKG_VERSION"));
+            return Ok(ExitCode::SUCCESS);
+        }
+        ("--help" | "-h" | "help", []) => {
+            say!("{}", help::OVERVIEW);
+            return Ok(ExitCode::SUCCESS);
+        }
+        ("--help" | "-h" | "help", [about, ..]) => {
+            say!("{}", found(about)?.help);
+            return Ok(ExitCode::SUCCESS);
+        }
+        _ => {}
     }
-    let subcommand = SUBCOMMANDS
-        .iter()
-        .find(|subcommand| subcommand.name == name)
-        .ok_or_else(|| Failure::usage(format!("'{name}' is no subcommand; try --help")))?;
+    let subcommand = found(name)?;
     if rest.iter().any(|word| word == "--help" || word == "-h") {
         say!("{}", subcommand.help);
-        return Ok(());
+        return Ok(ExitCode::SUCCESS);
     }
-    let arguments = Arguments::parse(name, rest, subcommand.options)?;
-    (subcommand.run)(&arguments)
+    let options = Options::parse(subcommand.form(), rest)?;
+    let arguments = Arguments::new(subcommand.name, options);
+    match subcommand.run {
+        Run::Tells(run) => run(&arguments),
+        Run::Answers(run) => Ok(answer(&arguments, run(&arguments))),
+    }
 }
 
-struct Subcommand {
-    name: &'static str,
-    options: &'static [&'static str],
-    help: &'static str,
-    run: fn(&Arguments) -> Result<(), Failure>,
+fn found(name: &str) -> Result<&'static Subcommand, Failure> {
+    let subcommand = SUBCOMMANDS
+        .iter()
+        .find(|subcommand| subcommand.name == name);
+    subcommand
+        .ok_or_else(|| Failure::usage(format!("'{}' is no subcommand; try --help", shown(name))))
 }
 
-const SUBCOMMANDS: &[Subcommand] = &[
-    Subcommand {
-        name: "demo",
-        options: &["set", "seed", "sheets", "folder"],
-        help: help::DEMO,
-        run: demo::demo,
-    },
-    Subcommand {
-        name: "key-test",
-        options: &["set", "folder", "f", "g", "a"],
-        help: help::KEY_TEST,
-        run: commands::key_test,
-    },
-    Subcommand {
-        name: "commit",
-        options: &["set", "folder", "a", "y1", "y2", "out"],
-        help: help::COMMIT,
-        run: commands::commit,
-    },
-    Subcommand {
-        name: "sign",
-        options: &[
-            "set",
-            "folder",
-            "f",
-            "g",
-            "a",
-            "y1",
-            "y2",
-            "list",
-            "sign",
-            "thresholds",
-            "words",
-            "record",
-        ],
-        help: help::SIGN,
-        run: commands::sign,
-    },
-    Subcommand {
-        name: "check",
-        options: &["a", "record", "rebuilt", "hashed"],
-        help: help::CHECK,
-        run: commands::check,
-    },
-    Subcommand {
-        name: "write",
-        options: &["set", "folder", "z1", "z2", "list", "record"],
-        help: help::WRITE,
-        run: commands::write,
-    },
-    Subcommand {
-        name: "read",
-        options: &["record", "folder"],
-        help: help::READ,
-        run: commands::read,
-    },
-    Subcommand {
-        name: "inspect",
-        options: &["record"],
-        help: help::INSPECT,
-        run: inspect::inspect,
-    },
-];
+/// Says what a subcommand answers, and ends with its status.
+fn answer(arguments: &Arguments, outcome: Result<answer::Done, Failure>) -> ExitCode {
+    if arguments.has("json") {
+        say!("{}", json_of(&outcome));
+        return outcome.map_or_else(|failure| failure.exit_code(), |_| ExitCode::SUCCESS);
+    }
+    match outcome {
+        Ok(done) if arguments.output_is_stream() => warn!("{}", done.said),
+        Ok(done) => say!("{}", done.said),
+        Err(failure) => return tell(failure),
+    }
+    ExitCode::SUCCESS
+}

@@ -1,90 +1,16 @@
 //! The tool as a desk runs it: files in, files out, exit status.
 
+mod setting;
+
 use second::testing::hash::list_of;
-use second::testing::keys::published;
-use second::testing::noise::Noise;
-use second::testing::sheet::{sign, Signed};
 use second::Set;
+use setting::{expect, files_of, numbers, run, Folder, HASH, SHEET};
 use std::ffi::OsStr;
-use std::fmt::Display;
 use std::fs::File;
 use std::os::unix::ffi::OsStrExt;
-use std::path::{Path, PathBuf};
+use std::os::unix::fs::PermissionsExt;
+use std::path::Path;
 use std::process::Command;
-
-/// A folder of its own for a test, removed when the test ends.
-struct Folder(PathBuf);
-
-impl Folder {
-    fn new(name: &str) -> Folder {
-        let path = std::env::temp_dir().join(format!("bursztok-{}-{name}", std::process::id()));
-        std::fs::create_dir_all(&path).unwrap();
-        Folder(path)
-    }
-
-    fn path(&self, name: &str) -> String {
-        self.0.join(name).display().to_string()
-    }
-
-    fn put<T: Display>(&self, name: &str, numbers: &[T]) {
-        let words: Vec<String> = numbers.iter().map(T::to_string).collect();
-        std::fs::write(self.0.join(name).with_extension("txt"), words.join("\n")).unwrap();
-    }
-}
-
-impl Drop for Folder {
-    fn drop(&mut self) {
-        let _ = std::fs::remove_dir_all(&self.0);
-    }
-}
-
-/// Exit status, standard output and standard error.
-fn run(words: &[&str]) -> (i32, String, String) {
-    let output = Command::new(env!("CARGO_BIN_EXE_bursztok"))
-        .args(words)
-        .output()
-        .unwrap();
-    (
-        output.status.code().unwrap(),
-        String::from_utf8(output.stdout).unwrap(),
-        String::from_utf8(output.stderr).unwrap(),
-    )
-}
-
-/// Runs to an exit status, and sees the words in what the tool said.
-fn expect(words: &[&str], status: i32, said: &str) {
-    let (code, out, err) = run(words);
-    assert_eq!(code, status, "{words:?}: {out}{err}");
-    let text = if status == 0 { &out } else { &err };
-    assert!(text.contains(said), "{words:?}: '{said}' is not in: {text}");
-}
-
-const SHEET: &[u8] = b"a cargo sheet";
-
-fn files_of(set: Set, folder: &Folder) -> Signed {
-    let mut noise = Noise::new(70);
-    let key = published(set, &mut noise);
-    let signed = sign(set, &key, SHEET, &mut noise);
-    folder.put("f", &key.f);
-    folder.put("g", &key.g);
-    folder.put("a", &key.a);
-    folder.put("y1", &signed.last_try.y1);
-    folder.put("y2", &signed.last_try.y2);
-    folder.put("list", &signed.last_try.list);
-    folder.put("sign", &[i8::from(signed.last_try.sign)]);
-    folder.put("thresholds", &signed.last_try.thresholds);
-    folder.put("words", &signed.last_try.words);
-    signed
-}
-
-fn numbers(path: &str) -> Vec<i64> {
-    let text = std::fs::read_to_string(Path::new(path)).unwrap();
-    text.lines()
-        .filter(|line| !line.starts_with('#'))
-        .flat_map(str::split_whitespace)
-        .map(|word| word.parse().unwrap())
-        .collect()
-}
 
 #[test]
 fn a_sheet_is_signed_and_checked_through_files() {
@@ -104,26 +30,9 @@ fn a_sheet_is_signed_and_checked_through_files() {
         with("sign", &["--record", &record]);
 
         let (a, rebuilt) = (folder.path("a.txt"), folder.path("rebuilt.txt"));
-        let check = ["check", "--a", &a, "--record", &record];
-        expect(
-            &[&check[..], &["--rebuilt", &rebuilt]].concat(),
-            0,
-            "refuses nothing",
-        );
+        let rebuild = ["rebuild", "--a", &a, "--record", &record, "--out", &rebuilt];
+        expect(&rebuild, 0, "Nothing is said of any sheet");
         assert_eq!(numbers(&rebuilt), numbers(&committed));
-        let hashed = folder.path("hashed.txt");
-        folder.put("hashed", &list_of(set, &signed.committed, SHEET));
-        expect(
-            &[&check[..], &["--hashed", &hashed]].concat(),
-            0,
-            "the signature holds",
-        );
-        folder.put("hashed", &list_of(set, &signed.committed, b"another sheet"));
-        expect(
-            &[&check[..], &["--hashed", &hashed]].concat(),
-            1,
-            "number 12, place 0",
-        );
 
         let (read, again) = (folder.path("read"), folder.path("again"));
         expect(
@@ -141,10 +50,113 @@ fn a_sheet_is_signed_and_checked_through_files() {
             std::fs::read(&record).unwrap(),
             std::fs::read(&again).unwrap()
         );
-        let inspect = ["inspect", "--record", &record];
-        expect(&inspect, 0, &format!("a signature of set {number}"));
-        expect(&inspect, 0, "bytes 24 .. 1047, 512 entries");
     }
+}
+
+#[test]
+fn a_check_rests_on_the_hash_of_the_rebuilt_vector() {
+    for set in Set::ALL {
+        let folder = Folder::new(&format!("check-{}", set.number()));
+        let signed = files_of(set, &folder);
+        let number = set.number().to_string();
+        let (path, record) = (folder.path(""), folder.path("record"));
+        let (a, sheet) = (folder.path("a.txt"), folder.path("sheet"));
+        let sign = [
+            "sign", "--set", &number, "--folder", &path, "--record", &record,
+        ];
+        expect(&sign, 0, "given out");
+        std::fs::write(&sheet, SHEET).unwrap();
+        let hash = folder.hash_command(set, &signed);
+        let check = |a: &str, record: &str, sheet: &str, status: i32, said: &str| {
+            let files = ["--a", a, "--record", record, "--sheet", sheet];
+            let words = [&["check"], &files[..], &["--hash", &hash]].concat();
+            expect(&words, status, said);
+        };
+        check(&a, &record, &sheet, 0, "The signature holds for");
+
+        // Another sheet, a damaged record and a foreign key are refused.
+        let other = folder.path("other");
+        std::fs::write(&other, b"another sheet").unwrap();
+        check(&a, &record, &other, 1, "number 12, place 0");
+        check(&a, &record, &other, 1, "differ: entry 0 is ");
+        let mut bytes = std::fs::read(&record).unwrap();
+        bytes[24] ^= 1;
+        std::fs::write(&other, &bytes).unwrap();
+        check(&a, &other, &sheet, 1, "number 12, place 0");
+        let mut foreign = signed.key.a.clone();
+        foreign[100] = (foreign[100] + 1) % 12289;
+        folder.put("foreign", &foreign);
+        check(&folder.path("foreign.txt"), &record, &sheet, 1, "number 12");
+    }
+}
+
+#[test]
+fn a_check_of_a_hashed_list_sees_that_the_file_is_todays_rebuild() {
+    let folder = Folder::new("hashed");
+    let signed = files_of(Set::III, &folder);
+    let (path, record) = (folder.path(""), folder.path("record"));
+    let sign = ["sign", "--set=3", "--folder", &path, "--record", &record];
+    expect(&sign, 0, "given out");
+    let (a, rebuilt) = (folder.path("a.txt"), folder.path("rebuilt.txt"));
+    let rebuild = ["rebuild", "--a", &a, "--record", &record, "--out", &rebuilt];
+    expect(&rebuild, 0, "");
+    let hashed = folder.path("hashed.txt");
+    folder.put("hashed", &list_of(Set::III, &signed.committed, SHEET));
+    let check = |a: &str, record: &str, hashed: &str, rebuilt: &str, status: i32, said: &str| {
+        let files = ["--a", a, "--record", record, "--hashed", hashed];
+        let words = [&["check"], &files[..], &["--rebuilt", rebuilt]].concat();
+        expect(&words, status, said);
+    };
+    check(&a, &record, &hashed, &rebuilt, 0, "The signature holds for");
+    folder.put("hashed", &list_of(Set::III, &signed.committed, b"another"));
+    check(&a, &record, &hashed, &rebuilt, 1, "number 12, place 0");
+    folder.put("hashed", &list_of(Set::III, &signed.committed, SHEET));
+
+    // A record whose z1 was damaged still reads, and claims the same list: its rebuild differs.
+    let mut bytes = std::fs::read(&record).unwrap();
+    bytes[24] ^= 1;
+    let damaged = folder.path("damaged");
+    std::fs::write(&damaged, &bytes).unwrap();
+    let other = "rebuilt.txt is not what ";
+    check(&a, &damaged, &hashed, &rebuilt, 1, other);
+    let mut foreign = signed.key.a.clone();
+    foreign[100] = (foreign[100] + 1) % 12289;
+    folder.put("foreign", &foreign);
+    let foreign = folder.path("foreign.txt");
+    check(&foreign, &record, &hashed, &rebuilt, 1, other);
+    folder.put("rebuilt", &[0; 511]);
+    check(&a, &record, &hashed, &rebuilt, 1, other);
+}
+
+#[test]
+fn a_check_without_a_hash_is_no_check() {
+    let folder = Folder::new("no-hash");
+    files_of(Set::I, &folder);
+    let (path, record) = (folder.path(""), folder.path("record"));
+    let sign = ["sign", "--set", "1", "--folder", &path, "--record", &record];
+    expect(&sign, 0, "given out");
+    let (a, list) = (folder.path("a.txt"), folder.path("list.txt"));
+    let check = ["check", "--a", &a, "--record", &record];
+    for more in [
+        &[][..],
+        &["--hashed", &list],
+        &["--rebuilt", &list],
+        &["--hash", HASH],
+        &["--sheet", &list],
+        &["--hash", HASH, "--sheet", &list, "--hashed", &list],
+    ] {
+        let words = [&check[..], more].concat();
+        expect(&words, 2, "a check needs the sheet and the command");
+    }
+    let command = |command| [&check[..], &["--hash", command, "--sheet", &list]].concat();
+    expect(&command("cat >/dev/null; exit 3"), 2, "exit status: 3");
+    expect(&command("cat >/dev/null; echo x"), 2, "found 'x'");
+    expect(&command("cat >/dev/null"), 1, "number 5, place 0");
+    expect(
+        &command("cat >/dev/null"),
+        1,
+        "a list of 0 places, set 1 has 23",
+    );
 }
 
 #[test]
@@ -156,6 +168,7 @@ fn refusals_end_with_number_place_and_meaning() {
         expect(&["key-test", "--set", set, "--folder", &path], 1, said);
     };
     key_test("5", "number 1, place 0: set above 4");
+    key_test("5", "set 5: sets are 1 to 4, and 0 stands for set 1");
     let sign = ["sign", "--set", "2", "--folder", &path, "--record", &record];
     expect(&sign, 0, "given out");
     folder.put("words", &[0; 0]);
@@ -164,6 +177,9 @@ fn refusals_end_with_number_place_and_meaning() {
         1,
         "number 9, place 0: the walk needs a word and none is left (0 words taken)",
     );
+    expect(&sign, 1, "words.txt holds 0 words");
+    folder.put("list", &[7; 22]);
+    expect(&sign, 1, "list.txt: a list of 22 places, set 2 has 23");
     folder.put("g", &[0; 511]);
     key_test("2", "number 2, place 0: a vector, read or written");
     key_test("2", "g.txt holds 511 numbers, 512 expected");
@@ -172,23 +188,87 @@ fn refusals_end_with_number_place_and_meaning() {
     expect(&sign, 1, "thresholds.txt holds 30 numbers, 31 expected");
     folder.put("g", &[2; 512]);
     key_test("2", "number 7, place 0: key longer than K");
+    let mut g = [0; 512];
+    g[500] = -3;
+    folder.put("g", &g);
+    key_test("2", "g.txt: place 500 is -3, -2 to 2 expected");
+    folder.put("g", &[0; 512]);
+    key_test("2", "a.txt is not the public key of ");
+}
 
-    let mut bytes = std::fs::read(&record).unwrap();
-    bytes[14] = 24;
-    std::fs::write(&record, &bytes).unwrap();
-    expect(
-        &["inspect", "--record", &record],
-        1,
-        "number 13, place 14: header malformed",
+#[test]
+fn a_record_is_refused_with_its_file_and_its_fault() {
+    let folder = Folder::new("record");
+    files_of(Set::I, &folder);
+    let (path, record) = (folder.path(""), folder.path("record"));
+    let sign = ["sign", "--set", "1", "--folder", &path, "--record", &record];
+    expect(&sign, 0, "given out");
+    let right = std::fs::read(&record).unwrap();
+    let (bad, out) = (folder.path("bad"), folder.path("out"));
+    let refused = |bytes: &[u8], number: &str, cause: &str| {
+        std::fs::write(&bad, bytes).unwrap();
+        for words in [
+            &["read", "--record", &bad, "--folder", &out][..],
+            &["inspect", &bad],
+            &[
+                "rebuild",
+                "--a",
+                &folder.path("a.txt"),
+                "--record",
+                &bad,
+                "--out",
+                &out,
+            ],
+        ] {
+            expect(words, 1, number);
+            expect(words, 1, &format!("{bad}{cause}"));
+        }
+        assert!(!Path::new(&out).exists());
+    };
+    let with = |at: usize, byte: u8| {
+        let mut bytes = right.clone();
+        bytes[at] = byte;
+        bytes
+    };
+    let longer = [&right[..], b"\r\n"].concat();
+    refused(
+        &longer,
+        "number 13, place 18",
+        ": 1608 bytes, set 1 has 1606",
     );
-    std::fs::write(&record, &bytes[..7]).unwrap();
-    let inspect = ["inspect", "--record", &record];
-    expect(&inspect, 1, "number 13, place 7");
-    assert!(run(&inspect)
-        .1
-        .contains("7 bytes are there, a header has 24"));
-    std::fs::write(&record, b"").unwrap();
-    expect(&["inspect", "--record", &record], 1, "number 13, place 0");
+    refused(
+        &right[..7],
+        "number 13, place 7",
+        ": 7 bytes, a header has 24",
+    );
+    refused(b"", "number 13, place 0", ": 0 bytes, a header has 24");
+    let count = ": bytes 14-15, count of the list: 24, 23 expected";
+    refused(
+        &with(14, 24),
+        "number 13, place 14: header malformed",
+        count,
+    );
+    refused(&with(31, 0x7f), "number 10, place 3", ", z1: place 3 is 32");
+    refused(
+        &with(1049, 0x80),
+        "number 10, place 513",
+        ", z2 dagger: place 1 is -128",
+    );
+    let place = ": entry 22 of the list is ";
+    refused(&with(1605, 0xff), "number 5, place 0", place);
+    // A file of gigabytes is not read whole: half a gigabyte of memory is enough.
+    let file = File::options().write(true).open(&bad).unwrap();
+    std::fs::write(&bad, &right).unwrap();
+    file.set_len(5 << 30).unwrap();
+    let output = Command::new("sh")
+        .args(["-c", "ulimit -v 500000; exec \"$0\" inspect \"$1\""])
+        .arg(env!("CARGO_BIN_EXE_bursztok"))
+        .arg(&bad)
+        .output()
+        .unwrap();
+    assert_eq!(output.status.code(), Some(1));
+    let said = String::from_utf8(output.stderr).unwrap();
+    assert!(said.contains("5368709120 bytes, set 1 has 1606"), "{said}");
 }
 
 #[test]
@@ -214,31 +294,36 @@ fn bad_files_are_named_with_line_and_expectation() {
 }
 
 #[test]
-fn a_check_reads_all_files_before_it_writes() {
-    let folder = Folder::new("check");
+fn an_output_is_none_of_the_inputs() {
+    let folder = Folder::new("outputs");
     files_of(Set::I, &folder);
     let (path, record) = (folder.path(""), folder.path("record"));
-    let sign = ["sign", "--set", "1", "--folder", &path, "--record", &record];
-    expect(&sign, 0, "given out");
-    let (a, rebuilt) = (folder.path("a.txt"), folder.path("rebuilt.txt"));
-    let (hashed, bad) = (folder.path("list.txt"), folder.path("bad.txt"));
-    std::fs::write(&bad, "seven").unwrap();
-    let check = |hashed: &str, rebuilt: &str, status, said: &str| {
-        let files = ["--a", &a, "--record", &record, "--hashed", hashed];
-        expect(
-            &[&["check"], &files[..], &["--rebuilt", rebuilt]].concat(),
-            status,
-            said,
-        );
-    };
-    check(&bad, &rebuilt, 2, "bad.txt, line 1: found 'seven'");
-    assert!(!Path::new(&rebuilt).exists());
-    for input in [&a, &record, &hashed] {
-        check(&hashed, input, 2, "--rebuilt names the file of");
+    let sign = ["sign", "--set", "1", "--folder", &path, "--record"];
+    expect(&[&sign[..], &[&record]].concat(), 0, "given out");
+    let y1 = folder.path("y1.txt");
+    expect(
+        &[&sign[..], &[&y1]].concat(),
+        2,
+        "--record names the file of y1",
+    );
+    let a = folder.path("a.txt");
+    let rebuild = ["rebuild", "--a", &a, "--record", &record, "--out"];
+    for input in [&a, &record] {
+        let words = [&rebuild[..], &[input]].concat();
+        expect(&words, 2, "--out names the file of");
     }
-    let holds = "the signature holds, if --hashed was hashed from the rebuilt vector and the sheet";
-    check(&hashed, &rebuilt, 0, holds);
-    assert_eq!(numbers(&rebuilt).len(), 512);
+    let commit = ["commit", "--set", "1", "--folder", &path, "--out", &y1];
+    expect(&commit, 2, "--out names the file of y1");
+    let read = folder.path("read");
+    std::fs::create_dir(&read).unwrap();
+    std::fs::copy(&record, folder.path("read/list.txt")).unwrap();
+    let inside = folder.path("read/list.txt");
+    let words = ["read", "--record", &inside, "--folder", &read];
+    expect(
+        &words,
+        2,
+        "list.txt, which --folder asks for, is the file of",
+    );
 }
 
 #[test]
@@ -255,14 +340,72 @@ fn a_failed_write_leaves_what_was_there() {
     expect(&read, 2, "list.txt: ");
     assert_eq!(std::fs::read(folder.path("read/z1.txt")).unwrap(), b"old");
     assert_eq!(std::fs::read_dir(&out).unwrap().count(), 2);
+    std::fs::write(folder.path("record.part"), "left over").unwrap();
+    expect(&sign, 2, "record.part is there already");
+    expect(&sign, 2, "remove ");
+    std::fs::remove_file(folder.path("record.part")).unwrap();
+    // A record that is written again keeps its permissions.
+    std::fs::set_permissions(&record, PermissionsExt::from_mode(0o600)).unwrap();
+    expect(&sign, 0, "given out");
+    let mode = std::fs::metadata(&record).unwrap().permissions().mode();
+    assert_eq!(mode & 0o777, 0o600);
 }
 
 #[test]
-fn output_that_cannot_be_written_ends_quietly() {
+fn a_dash_is_standard_input_or_output() {
+    let folder = Folder::new("dash");
+    files_of(Set::IV, &folder);
+    let (path, record) = (folder.path(""), folder.path("record"));
+    let sign = ["sign", "--set", "4", "--folder", &path, "--record"];
+    expect(&[&sign[..], &[&record]].concat(), 0, "given out");
+    let output = Command::new(env!("CARGO_BIN_EXE_bursztok"))
+        .args(sign)
+        .arg("-")
+        .output()
+        .unwrap();
+    assert_eq!(output.status.code(), Some(0));
+    assert_eq!(output.stdout, std::fs::read(&record).unwrap());
+    assert!(String::from_utf8(output.stderr)
+        .unwrap()
+        .contains("given out"));
+    let output = Command::new(env!("CARGO_BIN_EXE_bursztok"))
+        .args(["inspect", "-"])
+        .stdin(File::open(&record).unwrap())
+        .output()
+        .unwrap();
+    let said = String::from_utf8(output.stdout).unwrap();
+    assert!(said.starts_with("standard input: 1638 bytes"), "{said}");
+    assert!(said.contains("a signature of set 4"));
+    let twice = [
+        "key-test", "--set=4", "--folder", &path, "--f", "-", "--g", "-",
+    ];
+    expect(&twice, 2, "standard input is only one");
+    let json = [&sign[..], &["-", "--json"]].concat();
+    let (code, out, _) = run(&json);
+    assert_eq!(code, 2);
+    assert!(out.contains("do not go together"), "{out}");
+    assert!(!Path::new("-").exists());
+}
+
+#[test]
+fn full_output_is_told_and_a_closed_pipe_is_not() {
     let full = File::options().write(true).open("/dev/full").unwrap();
     let output = Command::new(env!("CARGO_BIN_EXE_bursztok"))
         .arg("--help")
         .stdout(full)
+        .output()
+        .unwrap();
+    assert_eq!(output.status.code(), Some(2));
+    let said = String::from_utf8(output.stderr).unwrap();
+    assert!(
+        said.contains("standard output cannot be written to"),
+        "{said}"
+    );
+    let (reader, writer) = std::io::pipe().unwrap();
+    drop(reader);
+    let output = Command::new(env!("CARGO_BIN_EXE_bursztok"))
+        .arg("--help")
+        .stdout(writer)
         .output()
         .unwrap();
     assert_eq!(output.status.code(), Some(2));
@@ -280,15 +423,30 @@ fn a_word_that_is_not_utf8_is_told() {
     assert!(said.contains("is not text in UTF-8"), "{said}");
 }
 
+const SUBCOMMANDS: [&str; 10] = [
+    "demo",
+    "key-test",
+    "commit",
+    "sign",
+    "check",
+    "rebuild",
+    "write",
+    "read",
+    "inspect",
+    "completion",
+];
+
 #[test]
 fn bad_usage_is_told() {
     expect(&[], 2, "a subcommand is missing");
     expect(&["sing"], 2, "'sing' is no subcommand");
+    expect(&["help", "sing"], 2, "'sing' is no subcommand");
     expect(&["key-test"], 2, "--set is missing");
     expect(&["key-test", "--set"], 2, "--set wants a value");
     expect(&["key-test", "--set", "one"], 2, "--set is 'one'");
+    expect(&["key-test", "--set", "1"], 2, "--f is missing");
     expect(
-        &["key-test", "--set", "1", "--set", "1"],
+        &["key-test", "--set", "1", "--set=1"],
         2,
         "--set is given twice",
     );
@@ -297,25 +455,45 @@ fn bad_usage_is_told() {
         2,
         "'--key' is no option",
     );
-    expect(&["demo", "--set", "7"], 2, "expected 1 to 4");
+    expect(&["key-test", "1"], 2, "'1' is one word too many");
+    expect(&["inspect"], 2, "no record is named");
+    expect(&["completion", "fish"], 2, "the shell is bash");
+    expect(&["demo", "--set", "7"], 2, "expected 0 to 4");
     expect(&["demo", "--folder", ""], 2, "--folder wants a value");
-    let subcommands = [
-        "demo", "key-test", "commit", "sign", "check", "write", "read", "inspect",
-    ];
-    for subcommand in subcommands {
-        expect(
-            &[subcommand, "--help"],
-            0,
-            &format!("bursztok {subcommand}"),
-        );
-    }
 }
 
 #[test]
-fn the_demo_runs_for_every_set() {
-    for set in ["1", "2", "3", "4"] {
-        let words = ["demo", "--set", set, "--seed", "3", "--sheets", "3"];
-        expect(&words, 0, "number 13, place 14");
-        expect(&words, 0, "holds on the shore");
+fn every_subcommand_has_help_and_completion() {
+    let overview = run(&["--help"]).1;
+    let completion = run(&["completion", "bash"]).1;
+    for subcommand in SUBCOMMANDS {
+        let about = format!("bursztok {subcommand}");
+        assert!(overview.contains(&about));
+        expect(&[subcommand, "--help"], 0, &about);
+        assert_eq!(run(&["help", subcommand]).1, run(&[subcommand, "--help"]).1);
+        assert!(completion.contains(&format!("        {subcommand}) options='--")));
+    }
+    let check = run(&["check", "--help"]).1;
+    for option in ["--hash", "--sheet", "--rebuilt", "--hashed", "--json"] {
+        assert!(check.contains(option));
+        assert!(completion.contains(option));
+    }
+    let read = Command::new("bash")
+        .args(["-n", "-c", &completion])
+        .status();
+    assert!(read.unwrap().success());
+}
+
+#[test]
+fn the_version_is_the_headers() {
+    let header = include_str!("../../../include/bursztok.h");
+    let version = env!("CARGO_PKG_VERSION");
+    assert!(header.contains(&format!("#define BURSZTOK_VERSION \"{version}\"\n")));
+    expect(&["--version"], 0, &format!("bursztok {version}\n"));
+    let page = include_str!("../../../docs/bursztok.1");
+    assert!(page.contains(&format!("\"bursztok {version}\"")));
+    for subcommand in SUBCOMMANDS {
+        let line = format!("\n.B {}", subcommand.replace('-', "\\-"));
+        assert!(page.contains(&line), "{subcommand}");
     }
 }

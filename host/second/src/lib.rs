@@ -1,8 +1,8 @@
-//! The independent second program: the ten calls of paper 01, written from the papers.
+//! The independent second program: the ten calls of paper 01, written from the papers, and the two
+//! that tell a set's sizes.
 //!
 //! Every product is the plain signed-wrap sum over whole numbers. Nothing is shared with the
-//! proved library: no code, no table, no transform. One module a section of the paper; `console`
-//! and `files` serve the programs.
+//! proved library: no code, no table, no transform. One module a section of the paper.
 //!
 //! No other number than 0 writes to any output buffer: each call works on vectors of its own
 //! and copies them out as its last act.
@@ -10,9 +10,7 @@
 pub mod answers;
 pub mod commitment;
 pub mod comparison;
-pub mod console;
 pub mod draw;
-pub mod files;
 pub mod key;
 pub mod length_rule;
 pub mod parameters;
@@ -20,6 +18,7 @@ pub mod rebuild;
 pub mod record;
 pub mod response;
 pub mod ring;
+pub mod sizes;
 pub mod testing;
 
 pub use answers::{Reading, Refusal, Response};
@@ -30,3 +29,4 @@ pub use parameters::Set;
 pub use rebuild::rebuild;
 pub use record::{list_section, read, write, z1_section, z2_section};
 pub use response::respond;
+pub use sizes::{kappa, record_bytes};

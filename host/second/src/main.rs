@@ -1,13 +1,17 @@
 //! Makes files for trying the desk's tool: test keys, a try of signing that is given out, and
 //! the test hash; and the test key of the C example.
 
-use second::console::arguments;
-use second::files::{lines_of, shown, write_files};
+use second::parameters::N;
 use second::testing::hash::list_of;
 use second::testing::keys::published;
 use second::testing::noise::{thresholds, Noise};
 use second::testing::sheet::sign;
-use second::{say, warn, Set};
+use second::Set;
+use shell::console::{arguments, shown};
+use shell::files::{make_folder, read_file, write_files};
+use shell::numbers::{joined, read_numbers, text_of};
+use shell::options::{Form, Options};
+use shell::{say, warn};
 use std::fmt::Display;
 use std::path::{Path, PathBuf};
 use std::process::ExitCode;
@@ -23,45 +27,63 @@ bursztok-second: test files for the desk's tool, made by the second program
       Prints a C header with a test key of the set and the set's thresholds, as
       examples/test_key.h has them.
   bursztok-second hash SET VECTOR MESSAGE
-      Prints the list that the test hash makes of the rounded vector in the text file VECTOR
-      and the file MESSAGE.
+      Prints the list that the test hash makes of the rounded vector in the text file VECTOR,
+      512 numbers, and the file MESSAGE.
+  bursztok-second hash SET
+      The same of standard input: the vector in two bytes an entry, low first, then the message,
+      as 'bursztok check --hash' gives them.
 
-SET is 1 to 4. Keys and hash are for tests only. Exit status: 0 done, 2 bad usage or bad file.";
+SET is 1 to 4, or 0 for set 1. '-' stands for standard input. Keys and hash are for tests only.
+Exit status: 0 done, 2 bad usage or bad file.";
 
 fn main() -> ExitCode {
     let words = arguments();
-    let words: Vec<&str> = words.iter().map(String::as_str).collect();
-    let outcome = match words[..] {
-        ["--help" | "-h"] => {
-            say!("{USAGE}");
-            Ok(())
-        }
-        ["try", set, seed, message, folder] => make_try(set, seed, message, folder),
-        ["header", set, seed] => print_header(set, seed),
-        ["hash", set, vector, message] => print_list(set, vector, message),
-        _ => Err(USAGE.to_string()),
-    };
-    match outcome {
+    if words.iter().any(|word| word == "--help" || word == "-h") {
+        say!("{USAGE}");
+        return ExitCode::SUCCESS;
+    }
+    match run(&words) {
         Ok(()) => ExitCode::SUCCESS,
         Err(message) => {
-            warn!("{message}");
+            warn!("bursztok-second: {message}");
             ExitCode::from(2)
         }
     }
 }
 
-fn make_try(set: &str, seed: &str, message: &str, folder: &str) -> Result<(), String> {
-    if folder.is_empty() {
-        return Err("the folder has no name".to_string());
+fn run(words: &[String]) -> Result<(), String> {
+    let Some((name, rest)) = words.split_first() else {
+        return Err("a subcommand is missing; try --help".to_string());
+    };
+    let taken = |words| {
+        let form = Form {
+            name,
+            values: &[],
+            flags: &[],
+            words,
+        };
+        Options::parse(form, rest)
+    };
+    match name.as_str() {
+        "try" => make_try(taken(&["SET", "SEED", "MESSAGE", "FOLDER"])?.words()),
+        "header" => print_header(taken(&["SET", "SEED"])?.words()),
+        "hash" if rest.len() < 2 => hash_stream(taken(&["SET"])?.words()),
+        "hash" => hash_files(taken(&["SET", "VECTOR", "MESSAGE"])?.words()),
+        _ => Err(format!("'{}' is no subcommand; try --help", shown(name))),
     }
-    let set = set_named(set)?;
-    let mut noise = Noise::new(seed_named(seed)?);
-    let message = bytes_of(message)?;
+}
+
+fn make_try(words: &[String]) -> Result<(), String> {
+    let (set, mut noise) = (set_named(&words[0])?, Noise::new(seed_named(&words[1])?));
+    let message = read_file(Path::new(&words[2]))?;
+    if words[3].is_empty() {
+        return Err("try: the folder has no name".to_string());
+    }
+    let folder = PathBuf::from(&words[3]);
     let key = published(set, &mut noise);
     let signed = sign(set, &key, &message, &mut noise);
     let (last_try, signature) = (signed.last_try, signed.signature);
-    let folder = PathBuf::from(folder);
-    std::fs::create_dir_all(&folder).map_err(|error| format!("{}: {error}", folder.display()))?;
+    make_folder(&folder)?;
     write_files(&[
         numbers_file(&folder, "f", &key.f),
         numbers_file(&folder, "g", &key.g),
@@ -78,9 +100,9 @@ fn make_try(set: &str, seed: &str, message: &str, folder: &str) -> Result<(), St
     ])
 }
 
-fn print_header(set: &str, seed: &str) -> Result<(), String> {
-    let set = set_named(set)?;
-    let key = published(set, &mut Noise::new(seed_named(seed)?));
+fn print_header(words: &[String]) -> Result<(), String> {
+    let (set, seed) = (set_named(&words[0])?, seed_named(&words[1])?);
+    let key = published(set, &mut Noise::new(seed));
     say!(
         "/* A test key of set {}, made by the second program from seed {seed}, and the set's",
         set.number()
@@ -109,49 +131,48 @@ fn print_array<T: Display>(kind: &str, name: &str, suffix: &str, numbers: &[T]) 
     say!("}};\n");
 }
 
-fn print_list(set: &str, vector: &str, message: &str) -> Result<(), String> {
-    let set = set_named(set)?;
-    let text = std::fs::read_to_string(vector).map_err(|error| format!("{vector}: {error}"))?;
-    let rounded: Vec<u16> = lines_of(&text)
-        .iter()
-        .flat_map(|(_, line)| line.split_whitespace())
-        .map(|word| {
-            word.parse().map_err(|_| {
-                let word = shown(word);
-                format!("{vector}: '{word}' is not a whole number from 0 to 65535")
-            })
-        })
-        .collect::<Result<_, _>>()?;
-    let list = list_of(set, &rounded, &bytes_of(message)?);
-    say!("{}", joined(&list));
+fn hash_files(words: &[String]) -> Result<(), String> {
+    let (set, vector) = (set_named(&words[0])?, Path::new(&words[1]));
+    let rounded: Vec<u16> = read_numbers(vector)?;
+    if rounded.len() != N {
+        let (count, vector) = (rounded.len(), vector.display());
+        return Err(format!("{vector} holds {count} numbers, {N} expected"));
+    }
+    let message = read_file(Path::new(&words[2]))?;
+    say!("{}", joined(&list_of(set, &rounded, &message)));
+    Ok(())
+}
+
+fn hash_stream(words: &[String]) -> Result<(), String> {
+    let set = set_named(&words[0])?;
+    let bytes = read_file(Path::new("-"))?;
+    let Some((vector, message)) = bytes.split_at_checked(2 * N) else {
+        let count = bytes.len();
+        let vector = 2 * N;
+        return Err(format!(
+            "hash: standard input has {count} bytes, the vector has {vector}"
+        ));
+    };
+    let rounded: Vec<u16> = vector
+        .chunks_exact(2)
+        .map(|pair| u16::from_le_bytes([pair[0], pair[1]]))
+        .collect();
+    say!("{}", joined(&list_of(set, &rounded, message)));
     Ok(())
 }
 
 fn set_named(word: &str) -> Result<Set, String> {
-    word.parse()
-        .ok()
-        .and_then(Set::stated)
-        .ok_or_else(|| format!("'{word}' is not a set from 1 to 4"))
+    let set = word.parse().ok().and_then(|number| Set::asked(number).ok());
+    set.ok_or_else(|| format!("'{}' is not a set from 1 to 4", shown(word)))
 }
 
 fn seed_named(word: &str) -> Result<u64, String> {
     word.parse()
-        .map_err(|_| format!("the seed '{word}' is not a whole number"))
+        .map_err(|_| format!("the seed '{}' is not a whole number", shown(word)))
 }
 
-fn bytes_of(path: &str) -> Result<Vec<u8>, String> {
-    std::fs::read(path).map_err(|error| format!("{path}: {error}"))
-}
-
-/// A text file of numbers, sixteen to a line, under a line that names it.
+/// A text file of numbers in the folder, under its name.
 fn numbers_file<T: Display>(folder: &Path, name: &str, numbers: &[T]) -> (PathBuf, Vec<u8>) {
-    let lines: Vec<String> = numbers.chunks(16).map(joined).collect();
-    let text = format!("# {name}\n{}\n", lines.join("\n"));
     let path = folder.join(name).with_extension("txt");
-    (path, text.into_bytes())
-}
-
-fn joined<T: Display>(numbers: &[T]) -> String {
-    let words: Vec<String> = numbers.iter().map(T::to_string).collect();
-    words.join(" ")
+    (path, text_of(name, numbers))
 }

@@ -1,8 +1,9 @@
 //! Writes the file of vectors, or replays one. Its format stands in the library's comment.
 
-use second::console::arguments;
-use second::files::write_file;
-use second::{say, warn};
+use shell::console::arguments;
+use shell::files::write_file;
+use shell::options::{Form, Options};
+use shell::{say, warn};
 use std::path::Path;
 use std::process::ExitCode;
 use vectors::Fault;
@@ -14,19 +15,29 @@ bursztok-vectors --replay FILE    replays a file against the second program
 The file's format is in the comment of host/vectors/src/lib.rs.
 Exit status: 0 done, 1 the replay found a difference, 2 bad usage or a bad file.";
 
+const FORM: Form = Form {
+    name: "bursztok-vectors",
+    values: &["replay"],
+    flags: &[],
+    words: &["WORD.."],
+};
+
 fn main() -> ExitCode {
     let words = arguments();
-    let words: Vec<&str> = words.iter().map(String::as_str).collect();
-    match words[..] {
-        ["--help" | "-h"] => {
-            say!("{USAGE}");
-            ExitCode::SUCCESS
-        }
-        ["--replay", path] => replay(path),
-        [path] if !path.starts_with('-') => write(path, 1),
-        [path, seed] if !path.starts_with('-') => match seed.parse() {
+    if words.iter().any(|word| word == "--help" || word == "-h") {
+        say!("{USAGE}");
+        return ExitCode::SUCCESS;
+    }
+    let options = match Options::parse(FORM, &words) {
+        Ok(options) => options,
+        Err(message) => return bad(&message),
+    };
+    match (options.given("replay"), options.words()) {
+        (Some(path), []) => replay(path),
+        (None, [path]) => write(path, 1),
+        (None, [path, seed]) => match seed.parse() {
             Ok(seed) => write(path, seed),
-            Err(_) => bad(&format!("the seed '{seed}' is not a whole number")),
+            Err(_) => bad(&options.fault(format!("the seed '{seed}' is not a whole number"))),
         },
         _ => bad(USAGE),
     }

@@ -83,7 +83,7 @@ fn one_entry(rest: &mut &[u8], slots: &mut Slots, counts: &mut Counts) -> Result
         CALL => {
             let call = Call::ALL
                 .into_iter()
-                .find(|&call| call as u8 == which)
+                .find(|&call| call as u8 == which && call.has_number())
                 .ok_or_else(|| Fault::Malformed(format!("no call {which}")))?;
             let wanted = one_call(call, elements, slots)?;
             *counts.entry((which, wanted.number)).or_default() += 1;
@@ -141,6 +141,7 @@ fn one_call(call: Call, elements: &[u8], slots: &Slots) -> Result<Answered, Faul
         place: short(6) as u32,
         words: short(8) as u64,
         part: (short(10), short(12)),
+        size: 0,
     };
     let (answered, outputs) = slots.call(call, &asked);
     if answered != wanted {

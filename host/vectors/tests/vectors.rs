@@ -10,7 +10,7 @@ fn the_file_replays_and_reaches_every_number() {
     assert!(file.len() < 600 * 1024, "{} bytes", file.len());
     assert_eq!(file, vectors(1));
     let counts = replay(&file).unwrap();
-    for call in Call::ALL {
+    for call in Call::ALL.into_iter().filter(|call| call.has_number()) {
         for &number in call.numbers() {
             let reached = counts.contains_key(&(call as u8, number));
             assert!(reached, "{}, {number}", call.name());

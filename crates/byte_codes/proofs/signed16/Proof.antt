@@ -1,6 +1,6 @@
 use borrow.Author.Needs.{needs}
 use mir.Syntax.{w16}
-use Rattle.byte_codes.proofs.Complement.{low-signed, unflip-ok, high-signed}
+use Rattle.byte_codes.proofs.Complement.{low-fromComplement, unflip-ok, high-fromComplement}
 use Rattle.byte_codes.proofs.signed16.Statement.{statement}
 use Rattle.byte_codes.proofs.signed16.Tie as tie
 
@@ -17,10 +17,10 @@ sub-result-2 : tie.Need-sub-result-2
 sub-result-2 c = unflip-ok w16 (c .before .fits .x .fits) (c .if1 .left)
 
 returns : tie.Need-returns
-returns c = low-signed w16 (c .before .fits .x .fits) (c .if1 .taken)
+returns c = low-fromComplement w16 (c .before .fits .x .fits) (c .if1 .taken)
 
 returns-2 : tie.Need-returns-2
-returns-2 c = high-signed w16 (c .before .fits .x .fits) (c .if1 .left)
+returns-2 c = high-fromComplement w16 (c .before .fits .x .fits) (c .if1 .left)
 
 pub signed16-spec : {M : Type 1} → statement M
 signed16-spec = tie.close (tie.spec cast-result sub-result cast-result-2 sub-result-2 returns returns-2)

@@ -5,7 +5,7 @@ use native.Mathlib.Omega.{arith}
 use borrow.Author.Tests.{ltb-true}
 use lib.Dec.{lit<}
 use lib.IntN.{ℤ, pos}
-use lib.ListN.{length, take, getD, set}
+use lib.ListN.{length, take, getD, set as update}
 use lib.Seq.{take-all}
 use Rattle.laws.proofs.Entries.{every-at}
 use Rattle.laws.proofs.Machine.{fits}
@@ -65,7 +65,7 @@ loop-less c = omega arith
 loop-again : tie.Need-loop-again Inv-loop μ-loop
 loop-again c = (
   omega arith,
-  ap (λ (r : List ℤ). set r (getD (L c) (l c .loop .j) 0) (pos modulus)) (l c .loop .inv .1) ∙ marks-next (L c) (l c .loop .j) (omega arith) (place c),
+  ap (λ (r : List ℤ). update r (getD (L c) (l c .loop .j) 0) (pos modulus)) (l c .loop .inv .1) ∙ marks-next (L c) (l c .loop .j) (omega arith) (place c),
 )
 
 same-length : tie.Need-same-length Inv-loop μ-loop

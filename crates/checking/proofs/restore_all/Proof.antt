@@ -1,8 +1,8 @@
-use mathlib.Core.Path.{_≡_, sym, ap₂, _∙_}
+use mathlib.Core.Path.{_≡_, sym, ap, _∙_}
 use mathlib.Core.List.{List}
 use Prim.Native.Nat.{ℕ, _-_, _≤_}
-use native.Mathlib.Nat.{mod-eq-of-lt}
 use native.Mathlib.Omega.{arith}
+use borrow.Author.Needs.{needs}
 use lib.Dec.{lit≤}
 use lib.IntN.{ℤ, pos}
 use lib.ListN.{length, getD}
@@ -18,10 +18,10 @@ use Rattle.checking.proofs.restore_all.Statement.{statement}
 use Rattle.checking.proofs.restore_all.Tie as tie
 
 abbrev Inv-loop : tie.InvT-loop
-Inv-loop s w z2 out₀ i₀ out i = (i ≤ dimension) × Rewritten out₀ (zipWith (restored s) w z2) i out
+Inv-loop s w z2 out₀ d p i₀ out i = (i ≤ dimension) × Rewritten out₀ (zipWith (restored s) w z2) i out
 
 abbrev μ-loop : tie.MeasureT-loop
-μ-loop s w z2 out₀ i₀ out i = dimension - i
+μ-loop s w z2 out₀ d p i₀ out i = dimension - i
 
 module _ (c : tie.Start Inv-loop μ-loop) where
   abbrev S : Set
@@ -39,9 +39,15 @@ module _ (c : tie.Start Inv-loop μ-loop) where
   long : length (zipWith (restored S) W Z) ≡ length O
   long = omega (arith, length-zipWith (restored S) W Z (omega arith))
 
+d-requires : tie.Need-d-requires Inv-loop μ-loop
+d-requires c κs = search needs
+
+p-requires : tie.Need-p-requires Inv-loop μ-loop
+p-requires c κs = search needs
+
 loop-holds : tie.Need-loop-holds Inv-loop μ-loop
 loop-holds c =
-    let s = c .before .before in
+    let s = c .before .before .before .before in
     (lit≤ tt, start (O s) (zipWith (restored (S s)) (W s) (Z s)) (long s))
 
 mul-restored : tie.Need-mul-restored Inv-loop μ-loop
@@ -56,8 +62,8 @@ shared-slice-copy-out-restored c = omega arith
 restored-requires : tie.Need-restored-requires Inv-loop μ-loop
 restored-requires c κs =
     let l = c .before .before .before in
-    let s = l .before .before .before in
-    rw (element w8 (getD (Z s) (l .loop .i) (pos 0)) (c .restored-arg .given) .back) (s .pre .1 .1 (l .loop .i))
+    let s = l .before .before .before .before .before in
+    (l .before .before .d .ensures, l .before .p .ensures, s .pre .1 .0 (l .loop .i), rw (element w8 (getD (Z s) (l .loop .i) (pos 0)) (c .restored-arg .given) .back) (s .pre .1 .1 (l .loop .i)))
 
 mul-out : tie.Need-mul-out Inv-loop μ-loop
 mul-out c = omega arith
@@ -74,12 +80,12 @@ loop-less c = omega arith
 loop-again : tie.Need-loop-again Inv-loop μ-loop
 loop-again c =
     let l = c .before .before .before .before in
-    let s = l .before .before .before in
+    let s = l .before .before .before .before .before in
     let i = l .loop .i in (
       omega arith,
       more (O s) (zipWith (restored (S s)) (W s) (Z s)) (long s) (l .loop .inv .1) 0 _ (omega arith)
           (c .restored .ensures
-          ∙ ap₂ (restored (S s)) (mod-eq-of-lt (s .pre .1 .0 i)) (element w8 (getD (Z s) i (pos 0)) (c .before .restored-arg .given) .back)
+          ∙ ap (restored (S s) (getD (W s) i 0)) (element w8 (getD (Z s) i (pos 0)) (c .before .restored-arg .given) .back)
           ∙ sym (getD-zipWith (restored (S s)) (W s) (Z s) i 0 (pos 0) 0 (omega arith) (omega arith))),
     )
 
@@ -88,7 +94,7 @@ same-length c = c .before .loop .inv .1 .long
 
 returns : tie.Need-returns Inv-loop μ-loop
 returns c =
-    let s = c .before .before .before .before in
+    let s = c .before .before .before .before .before .before in
     finish (O s) (zipWith (restored (S s)) (W s) (Z s)) (long s) (c .before .loop .inv .1) (omega arith)
 
 pub restore-all-spec : {M : Type 1} → statement M
@@ -97,6 +103,8 @@ restore-all-spec =
     (tie.spec
     Inv-loop
     μ-loop
+    d-requires
+    p-requires
     loop-holds
     mul-restored
     shared-slice-read-restored

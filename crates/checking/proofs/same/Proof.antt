@@ -1,10 +1,11 @@
-use mathlib.Core.Path.{_≡_, refl}
+use mathlib.Core.Path.{_≡_, refl, sym}
+use mathlib.Core.Bool.{true}
 use mathlib.Core.List.{List}
 use Prim.Native.Nat.{ℕ, _-_, _≤_}
 use native.Mathlib.Omega.{arith}
 use lib.ListN.{length, drop}
 use Rattle.laws.specs.Lists.{same}
-use Rattle.laws.proofs.Loops.{same-stops, same-passes, same-ends}
+use Rattle.laws.proofs.Loops.{same-fails, same-passes, same-ends}
 use Rattle.checking.proofs.same.Statement.{statement}
 use Rattle.checking.proofs.same.Tie as tie
 
@@ -39,7 +40,7 @@ shared-slice-read-if1-2 c = omega arith
 returns : tie.Need-returns Inv-loop μ-loop
 returns c =
     let l = c .before .before .before .before in
-    same-stops (X l) (Y l) (l .before .pre) (l .loop .i) (l .loop .inv .1) (omega arith) (c .if1 .taken)
+    sym (same-fails (X l) (Y l) (l .before .pre) (l .loop .i) true (l .loop .inv .1) (omega arith) (c .if1 .taken) refl)
 
 add-i : tie.Need-add-i Inv-loop μ-loop
 add-i c = omega arith
@@ -50,12 +51,12 @@ loop-less c = omega arith
 loop-again : tie.Need-loop-again Inv-loop μ-loop
 loop-again c =
     let l = c .before .before .before .before in
-    (omega arith, same-passes (X l) (Y l) (l .before .pre) (l .loop .i) (l .loop .inv .1) (omega arith) (c .if1 .left))
+    (omega arith, same-passes (X l) (Y l) (l .before .pre) (l .loop .i) true (l .loop .inv .1) (omega arith) (c .if1 .left) refl)
 
 returns-2 : tie.Need-returns-2 Inv-loop μ-loop
 returns-2 c =
     let l = c .before in
-    same-ends (X l) (Y l) (l .before .pre) (l .loop .i) (l .loop .inv .1) (omega arith)
+    same-ends (X l) (Y l) (l .before .pre) (l .loop .i) true (l .loop .inv .1) (omega arith)
 
 pub same-spec : {M : Type 1} → statement M
 same-spec =

@@ -1,47 +1,42 @@
-use mathlib.Core.Path.{_≡_, sym, _∙_, ap}
-use mathlib.Core.Bool.{Bool}
+use mathlib.Core.Path.{_≡_, _∙_, ap, sym}
+use mathlib.Core.Bool.{Bool, true, false}
 use mathlib.Core.List.{List}
-use Prim.Native.Nat.{ℕ, _+_, _^_, _<_, _≤_}
-use native.Mathlib.Omega.{arith}
 use borrow.Author.Needs.{needs}
-use lib.IntN.{ℤ, pos, natAbs}
-use lib.ListN.{getD}
+use lib.IntN.{ℤ, pos, _+ℤ_, _-ℤ_}
+use lib.Signed.{ltZ}
+use mir.Syntax.{w32}
+use mir.Val.{SFits, toZ, ofZ}
 use Rattle.laws.specs.Lists.{zipWith}
-use Rattle.vectors.specs.Vectors.{squares}
-use Rattle.vectors.proofs.Lengths.{entry-le}
-use Rattle.choices.specs.Choices.{signed}
+use Rattle.laws.proofs.Machine.{given, held, lt-is}
+use Rattle.choices.specs.Choices.{addedIf}
 use Rattle.choices.proofs.join.Statement.{statement}
 use Rattle.choices.proofs.join.Tie as tie
 
--- squared lengths of together at most 2^26 have entries of at most 2^13
-room : (v c : List ℤ) → squares v + squares c ≤ 2 ^ 26 → (k : ℕ) → natAbs (getD v k (pos 0)) + natAbs (getD c k (pos 0)) < 32768
-room v c h k = omega (arith, entry-le 8192 v (omega arith) k, entry-le 8192 c (omega arith) k)
+-- by what the test says
+module _ (new v c : List ℤ) (inner : ℤ) (f : SFits w32 inner) where
+  added : ltZ (toZ w32 (ofZ w32 inner)) (toZ w32 0) ≡ true → new ≡ zipWith _+ℤ_ v c → new ≡ zipWith (addedIf (ltZ inner (pos 0))) v c
+  added e n = n ∙ ap (λ (b : Bool). zipWith (addedIf b) v c) (sym (lt-is (given f) (held w32 0) e))
 
--- the operation, by the flag's value
-way : {b add : Bool} (v c : List ℤ) → add ≡ b → zipWith (signed b) v c ≡ zipWith (signed add) v c
-way v c e = ap (λ (t : Bool). zipWith (signed t) v c) (sym e)
+  subtracted : ltZ (toZ w32 (ofZ w32 inner)) (toZ w32 0) ≡ false → new ≡ zipWith _-ℤ_ v c → new ≡ zipWith (addedIf (ltZ inner (pos 0))) v c
+  subtracted e n = n ∙ ap (λ (b : Bool). zipWith (addedIf b) v c) (sym (lt-is (given f) (held w32 0) e))
 
 add-to-requires : tie.Need-add-to-requires
-add-to-requires c κs =
-    let s = c .before .before in
-    (s .pre .0, s .pre .1, room (s .args .v .now) (s .args .c .now) (s .pre .2))
+add-to-requires c κs = search needs
 
 subtract-from-requires : tie.Need-subtract-from-requires
-subtract-from-requires c κs =
-    let s = c .before .before in
-    (s .pre .0, s .pre .1, room (s .args .v .now) (s .args .c .now) (s .pre .2))
+subtract-from-requires c κs = search needs
 
 same-length : tie.Need-same-length
 same-length c = search needs
 
 returns : tie.Need-returns
-returns c = c .before .add-to .ensures ∙ way _ _ (c .before .before .before .if1 .taken)
+returns c = search (needs, added)
 
 same-length-2 : tie.Need-same-length-2
 same-length-2 c = search needs
 
 returns-2 : tie.Need-returns-2
-returns-2 c = c .before .subtract-from .ensures ∙ way _ _ (c .before .before .before .if1 .left)
+returns-2 c = search (needs, subtracted)
 
 pub join-spec : {M : Type 1} → statement M
 join-spec = tie.close (tie.spec add-to-requires subtract-from-requires same-length returns same-length-2 returns-2)

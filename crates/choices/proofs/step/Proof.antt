@@ -1,20 +1,27 @@
-use mathlib.Core.Path.{_≡_, refl, sym, _∙_, ap, ap₂}
-use mathlib.Core.Bool.{Bool}
-use Prim.Native.Nat.{_+_, _^_, _<_, _≤_}
+use mathlib.Core.Path.{_≡_, _∙_, ap, ap₂}
+use mathlib.Core.Bool.{true}
+use mathlib.Core.List.{List}
+use Prim.Native.Nat.{ℕ, _+_, _*_, _<_}
 use native.Mathlib.Omega.{arith}
 use borrow.Author.Needs.{needs}
-use lib.IntN.{ℤ, pos, natAbs, _+ℤ_}
+use lib.IntN.{ℤ, pos, natAbs}
+use lib.ListN.{getD}
 use lib.Signed.{ltZ}
 use mir.Syntax.{w32}
-use mir.Val.{toZ, ofZ}
-use Rattle.laws.specs.Lists.{zipWith}
-use Rattle.laws.proofs.Machine.{Reads, element, held, add-ok, add-is, lt-is}
-use Rattle.vectors.specs.Vectors.{squares, inner}
-use Rattle.vectors.proofs.Lengths.{sizes-le-squares}
-use Rattle.vectors.proofs.Sums.{inner-le-sizes}
-use Rattle.choices.specs.Choices.{Pair, pair, innerPair, signed, chosen}
+use mir.Val.{ofZ}
+use Rattle.laws.specs.Lists.{every, zipWith}
+use Rattle.laws.proofs.Machine.{Reads, element}
+use Rattle.sets.specs.Numbers.{listLimit}
+use Rattle.vectors.specs.Vectors.{within}
+use Rattle.vectors.proofs.Ranges.{within-at}
+use Rattle.vectors.specs.Pairs.{Pair, pair, innerPair}
+use Rattle.choices.specs.Choices.{addedIf, chosen}
 use Rattle.choices.proofs.step.Statement.{statement}
 use Rattle.choices.proofs.step.Tie as tie
+
+-- v and a column more fit
+room : (v c : List ℤ) → every (within (listLimit * 5)) v ≡ true → every (within 5) c ≡ true → (k : ℕ) → natAbs (getD v k (pos 0)) + natAbs (getD c k (pos 0)) < 32768
+room v c h j k = omega (arith, within-at (listLimit * 5) v h k, within-at 5 c j k)
 
 module _ (c : tie.Start) where
   abbrev vector : Pair
@@ -23,59 +30,25 @@ module _ (c : tie.Start) where
   abbrev column : Pair
   column = pair (c .args .c1 .now) (c .args .c2 .now)
 
-  first-small : squares (vector .first) + squares (column .first) ≤ 2 ^ 26
-  first-small = omega arith
-
-  second-small : squares (vector .second) + squares (column .second) ≤ 2 ^ 26
-  second-small = omega arith
-
 inner-product-requires : tie.Need-inner-product-requires
-inner-product-requires c κs =
-    let s = c .before in
-    (s .pre .0 .0, s .pre .0 .2, omega (arith, sizes-le-squares (vector s .first) (column s .first), first-small s))
+inner-product-requires c κs = c .before .before .pre
 
-inner-product-requires-2 : tie.Need-inner-product-requires-2
-inner-product-requires-2 c κs =
-    let s = c .before .before .before in
-    (s .pre .0 .1, s .pre .0 .3, omega (arith, sizes-le-squares (vector s .second) (column s .second), second-small s))
-
--- the two inner products, and their sum
-module _ (c : tie.After-inner-product2) where
+module _ (c : tie.After-inner-product) where
   abbrev start : tie.Start
-  start = c .before .before .before .before
+  start = c .before .before .before
 
-  first-is : Reads w32 (ofZ w32 (c .before .before .inner-product .result)) (inner (vector start .first) (column start .first))
-  first-is = record { back = element w32 _ (c .before .before .inner-product .ok) .back ∙ c .before .before .inner-product .ensures }
-
-  second-is : Reads w32 (ofZ w32 (c .inner-product2 .result)) (inner (vector start .second) (column start .second))
-  second-is = record { back = element w32 _ (c .inner-product2 .ok) .back ∙ c .inner-product2 .ensures }
-
-  sum-small : natAbs (inner (vector start .first) (column start .first)) + natAbs (inner (vector start .second) (column start .second)) < 2 ^ 31
-  sum-small =
-      omega (
-        arith,
-        inner-le-sizes (vector start .first) (column start .first),
-        inner-le-sizes (vector start .second) (column start .second),
-        sizes-le-squares (vector start .first) (column start .first),
-        sizes-le-squares (vector start .second) (column start .second),
-      )
-
-  sign-is : ltZ (toZ w32 (ofZ w32 (toZ w32 (ofZ w32 (c .before .before .inner-product .result)) +ℤ toZ w32 (ofZ w32 (c .inner-product2 .result))))) (toZ w32 0)
-      ≡ ltZ (innerPair (vector start) (column start)) (pos 0)
-  sign-is = sym (lt-is (add-is first-is second-is sum-small) (held w32 0) refl)
-
-add-inner : tie.Need-add-inner
-add-inner c = add-ok (first-is c) (second-is c) (sum-small c)
+  inner-is : Reads w32 (ofZ w32 (c .inner-product .result)) (innerPair (vector start) (column start))
+  inner-is = record { back = element w32 _ (c .inner-product .ok) .back ∙ c .inner-product .ensures }
 
 join-requires : tie.Need-join-requires
 join-requires c κs =
     let s = start (c .before) in
-    (s .pre .0 .0, s .pre .0 .2, first-small s)
+    (s .pre .0 .0, s .pre .0 .2, room (vector s .first) (column s .first) (s .pre .1 .0) (s .pre .1 .2))
 
 join-requires-2 : tie.Need-join-requires-2
 join-requires-2 c κs =
     let s = start (c .before .before .before .before) in
-    (s .pre .0 .1, s .pre .0 .3, second-small s)
+    (s .pre .0 .1, s .pre .0 .3, room (vector s .second) (column s .second) (s .pre .1 .1) (s .pre .1 .3))
 
 same-length : tie.Need-same-length
 same-length c = search needs
@@ -88,17 +61,7 @@ unfolding chosen
 returns c =
     let p = c .before .before .before .before .before .before in
     ap₂ pair (c .before .before .before .before .join .ensures) (c .before .join2 .ensures)
-    ∙ ap (λ (b : Bool). pair (zipWith (signed b) (vector (start p) .first) (column (start p) .first)) (zipWith (signed b) (vector (start p) .second) (column (start p) .second))) (sign-is p)
+    ∙ ap (λ (z : ℤ). pair (zipWith (addedIf (ltZ z (pos 0))) (vector (start p) .first) (column (start p) .first)) (zipWith (addedIf (ltZ z (pos 0))) (vector (start p) .second) (column (start p) .second))) (inner-is p .back)
 
 pub step-spec : {M : Type 1} → statement M
-step-spec =
-    tie.close
-    (tie.spec
-    inner-product-requires
-    inner-product-requires-2
-    add-inner
-    join-requires
-    join-requires-2
-    same-length
-    same-length-2
-    returns)
+step-spec = tie.close (tie.spec inner-product-requires join-requires join-requires-2 same-length same-length-2 returns)

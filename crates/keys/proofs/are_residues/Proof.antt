@@ -1,6 +1,8 @@
 use mathlib.Core.Path.{_≡_, refl, sym, ap, _∙_}
+use mathlib.Core.Bool.{_&&_}
 use mathlib.Core.List.{List, map}
-use Prim.Native.Nat.{ℕ, _-_, _≤_}
+use mathlib.Core.Logic.{⊎-elim}
+use Prim.Native.Nat.{ℕ, _-_, _<_, _≤_}
 use native.Mathlib.Omega.{arith}
 use borrow.Author.Tests.{leb-true}
 use lib.Dec.{lit≤}
@@ -10,7 +12,7 @@ use mir.Syntax.{w16}
 use Rattle.laws.specs.Integers.{residue}
 use Rattle.laws.specs.Lists.{same}
 use Rattle.laws.proofs.Entries.{every-anywhere}
-use Rattle.laws.proofs.Loops.{same-stops, same-passes, same-ends}
+use Rattle.laws.proofs.Loops.{same-fails, same-passes, same-ends}
 use Rattle.laws.proofs.Machine.{element}
 use Rattle.sets.specs.Numbers.{dimension, modulus}
 use Rattle.vectors.specs.Vectors.{within}
@@ -21,10 +23,10 @@ abbrev residues : List ℤ → List ℕ
 residues = map (residue modulus)
 
 abbrev Inv-loop : tie.InvT-loop
-Inv-loop t s i₀ i = (i ≤ dimension) × (same t (residues s) ≡ same (drop i t) (drop i (residues s)))
+Inv-loop t s all₀ i₀ all i = (i ≤ dimension) × (same t (residues s) ≡ all && same (drop i t) (drop i (residues s)))
 
 abbrev μ-loop : tie.MeasureT-loop
-μ-loop t s i₀ i = dimension - i
+μ-loop t s all₀ i₀ all i = dimension - i
 
 loop-holds : tie.Need-loop-holds Inv-loop μ-loop
 loop-holds c = (lit≤ tt, refl)
@@ -68,11 +70,6 @@ entry c =
     ∙ ap (residue modulus) (element w16 (getD (S l) (l .loop .i) (pos 0)) (c .before .residue-arg .given) .back)
     ∙ sym (List·getD-map (residue modulus) (S l) (l .loop .i) (pos 0))
 
-returns : tie.Need-returns Inv-loop μ-loop
-returns c =
-    let l = c .before .before .before .before .before in
-    same-stops (T l) (residues (S l)) (long l) (l .loop .i) (l .loop .inv .1) (omega arith) (λ e. c .if1 .taken (e ∙ sym (entry (c .before))))
-
 add-i : tie.Need-add-i Inv-loop μ-loop
 add-i c = omega arith
 
@@ -82,12 +79,19 @@ loop-less c = omega arith
 loop-again : tie.Need-loop-again Inv-loop μ-loop
 loop-again c =
     let l = c .before .before .before .before .before in
-    (omega arith, same-passes (T l) (residues (S l)) (long l) (l .loop .i) (l .loop .inv .1) (omega arith) (c .if1 .left ∙ entry (c .before)))
+    let h : l .loop .i < length (T l) = omega arith in (
+      omega arith,
+      ⊎-elim
+          (λ w.
+          same-fails (T l) (residues (S l)) (long l) (l .loop .i) (l .loop .all) (l .loop .inv .1) h (λ e. w .0 .taken (e ∙ sym (entry (c .before)))) (w .1))
+          (λ w. same-passes (T l) (residues (S l)) (long l) (l .loop .i) (l .loop .all) (l .loop .inv .1) h (w .0 .left ∙ entry (c .before)) (w .1))
+          (c .if1 .came),
+    )
 
-returns-2 : tie.Need-returns-2 Inv-loop μ-loop
-returns-2 c =
+returns : tie.Need-returns Inv-loop μ-loop
+returns c =
     let l = c .before in
-    same-ends (T l) (residues (S l)) (long l) (l .loop .i) (l .loop .inv .1) (omega arith)
+    same-ends (T l) (residues (S l)) (long l) (l .loop .i) (l .loop .all) (l .loop .inv .1) (omega arith)
 
 pub are-residues-spec : {M : Type 1} → statement M
 are-residues-spec =
@@ -101,8 +105,7 @@ are-residues-spec =
     mul-residue
     shared-slice-copy-out-residue
     residue-requires
-    returns
     add-i
     loop-less
     loop-again
-    returns-2)
+    returns)

@@ -5,7 +5,7 @@ use native.Mathlib.Omega.{arith}
 use borrow.Author.Tests.{leb-true}
 use lib.Dec.{lit≤}
 use lib.IntN.{ℤ, pos, natAbs, _+ℤ_}
-use lib.ListN.{length, getD, set, length-set}
+use lib.ListN.{length, getD, set as update, length-set}
 use mir.Syntax.{w16}
 use mir.Val.{toZ, ofZ}
 use Rattle.laws.proofs.Bounds.{abs-mul}
@@ -120,8 +120,8 @@ same-length c = length-set (c .before .before .loop .g) 0 _ ∙ c .before .befor
 returns : tie.Need-returns Inv-loop μ-loop
 returns c =
     let s = c .before .before .before in
-    ap (λ (z : ℤ). set (c .before .before .loop .g) 0 z) (sum c .back)
-    ∙ ap (λ (r : List ℤ). set r 0 (getD r 0 (pos 0) +ℤ pos 1)) (done (c .before))
+    ap (λ (z : ℤ). update (c .before .before .loop .g) 0 z) (sum c .back)
+    ∙ ap (λ (r : List ℤ). update r 0 (getD r 0 (pos 0) +ℤ pos 1)) (done (c .before))
     ∙ second-is (G s) (omega arith)
 
 pub make-second-spec : {M : Type 1} → statement M

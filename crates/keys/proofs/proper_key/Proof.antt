@@ -12,7 +12,8 @@ use Rattle.sets.specs.declared.Set.{Set}
 use Rattle.sets.specs.Numbers.{keyLimitOf}
 use Rattle.vectors.proofs.Ranges.{within-at}
 use Rattle.vectors.proofs.Sums.{squares-le}
-use Rattle.keys.specs.Key.{keyLength, relation, properKey}
+use Rattle.vectors.specs.Pairs.{pair, squaresPair}
+use Rattle.keys.specs.Key.{relation, properKey}
 use Rattle.keys.proofs.proper_key.Statement.{statement}
 use Rattle.keys.proofs.proper_key.Tie as tie
 
@@ -38,7 +39,7 @@ module _ (c : tie.After-squared-length2) where
   abbrev s2 : List ℤ
   s2 = start .args .s2 .now
 
-  whole : c .before .squared-length .result + c .squared-length2 .result ≡ keyLength s1 s2
+  whole : c .before .squared-length .result + c .squared-length2 .result ≡ squaresPair (pair s1 s2)
   whole = cc
 
   limit : c .before .before .key-limit .result ≡ keyLimitOf s
@@ -51,8 +52,8 @@ add-if1 c =
 returns : tie.Need-returns
 unfolding properKey
 returns c =
-    let e : leb (keyLength (s1 (c .before)) (s2 (c .before))) (keyLimitOf (s (c .before))) ≡ false =
-    lt-leb (keyLength (s1 (c .before)) (s2 (c .before))) (keyLimitOf (s (c .before))) (omega (arith, whole (c .before), limit (c .before))) in
+    let e : leb (squaresPair (pair (s1 (c .before)) (s2 (c .before)))) (keyLimitOf (s (c .before))) ≡ false =
+    lt-leb (squaresPair (pair (s1 (c .before)) (s2 (c .before)))) (keyLimitOf (s (c .before))) (omega (arith, whole (c .before), limit (c .before))) in
     rw e
 
 slice-aggregate-multiply : tie.Need-slice-aggregate-multiply
@@ -71,8 +72,8 @@ module _ (c : tie.After-are-residues) where
   abbrev r : tie.Else1
   r = c .before .before .before .before .before
 
-  short : leb (keyLength (s1 (r .before)) (s2 (r .before))) (keyLimitOf (s (r .before))) ≡ true
-  short = le-leb (keyLength (s1 (r .before)) (s2 (r .before))) (keyLimitOf (s (r .before))) (omega (arith, whole (r .before), limit (r .before)))
+  short : leb (squaresPair (pair (s1 (r .before)) (s2 (r .before)))) (keyLimitOf (s (r .before))) ≡ true
+  short = le-leb (squaresPair (pair (s1 (r .before)) (s2 (r .before)))) (keyLimitOf (s (r .before))) (omega (arith, whole (r .before), limit (r .before)))
 
   related : c .are-residues .result ≡ relation (start (r .before) .args .a .now) (s1 (r .before)) (s2 (r .before))
   related = cc

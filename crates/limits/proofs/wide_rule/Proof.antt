@@ -21,8 +21,8 @@ use Rattle.limits.proofs.wide_rule.Tie as tie
 largest-requires : tie.Need-largest-requires
 largest-requires c κs = search needs
 
-first-beyond-requires : tie.Need-first-beyond-requires
-first-beyond-requires c κs = search needs
+test-entries-requires : tie.Need-test-entries-requires
+test-entries-requires c κs = search needs
 
 is-done-requires : tie.Need-is-done-requires
 is-done-requires c κs = search needs
@@ -35,8 +35,8 @@ module _ (c : tie.After-is-done) where
   abbrev first : Outcome
   first = entries (largestOf (S .args .s)) 1 0 (S .args .z1 .now) Done
 
-  first-is : c .before .first-beyond .result ≡ first
-  first-is = c .before .first-beyond .ensures ∙ ap (λ (n : ℕ). entries n 1 0 (S .args .z1 .now) Done) (c .before .before .largest .ensures)
+  first-is : c .before .test-entries .result ≡ first
+  first-is = c .before .test-entries .ensures ∙ ap (λ (n : ℕ). entries n 1 0 (S .args .z1 .now) Done) (c .before .before .largest .ensures)
 
 returns : tie.Need-returns
 returns c =
@@ -49,13 +49,14 @@ largest-requires-2 c κs = search needs
 step-requires : tie.Need-step-requires
 step-requires c κs = search needs
 
-cast-first-beyond : tie.Need-cast-first-beyond
-cast-first-beyond c = search needs
+cast-test-entries : tie.Need-cast-test-entries
+cast-test-entries c = search needs
 
-first-beyond-requires-2 : tie.Need-first-beyond-requires-2
-first-beyond-requires-2 c κs =
+test-entries-requires-2 : tie.Need-test-entries-requires-2
+test-entries-requires-2 c κs =
     let s = c .before .before .before .before .before .before in
-    (s .pre .1, omega (arith, c .step .ensures, pow-mono (d-small (s .args .s))), lit≤ tt)
+    let step = c .step .ensures in
+    (s .pre .1, omega (arith, step, pow-pos (dOf (s .args .s))), omega (arith, step, pow-mono (d-small (s .args .s))), lit≤ tt)
 
 is-done-requires-2 : tie.Need-is-done-requires-2
 is-done-requires-2 c κs = search needs
@@ -71,9 +72,9 @@ module _ (c : tie.After-is-done2) where
   abbrev second : Outcome
   second = entries (largestOf (Z .args .s)) (2 ^ dOf (Z .args .s)) dimension (Z .args .z2 .now) Done
 
-  second-is : c .before .first-beyond2 .result ≡ second
+  second-is : c .before .test-entries2 .result ≡ second
   second-is =
-      c .before .first-beyond2 .ensures
+      c .before .test-entries2 .ensures
       ∙ ap₂ (λ (n f : ℕ). entries n f dimension (Z .args .z2 .now) Done) (c .before .before .before .largest2 .ensures) (c .before .before .step .ensures)
 
   onward : (x next : Outcome) → x ≡ unless second (λ o. o) next → x ≡ unless (first (F .before)) (λ o. o) (unless second (λ o. o) next)
@@ -134,13 +135,13 @@ wide-rule-spec =
     tie.close
     (tie.spec
     largest-requires
-    first-beyond-requires
+    test-entries-requires
     is-done-requires
     returns
     largest-requires-2
     step-requires
-    cast-first-beyond
-    first-beyond-requires-2
+    cast-test-entries
+    test-entries-requires-2
     is-done-requires-2
     returns-2
     bound-squared-requires

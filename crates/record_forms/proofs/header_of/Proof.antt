@@ -1,21 +1,22 @@
-use mathlib.Core.Path.{_≡_, refl, ap, _∙_}
+use mathlib.Core.Path.{_≡_, sym, ap, _∙_}
 use mathlib.Core.List.{List, [], _∷_}
 use Prim.Native.Nat.{ℕ, _+_, _/_, _%_}
 use native.Mathlib.Omega.{arith}
-use lib.ListN.{set}
+use lib.ListN.{set as update}
 use mir.Syntax.{w8, w16}
 use mir.Val.{Fits}
 use Rattle.sets.specs.declared.Set.{Set}
-use Rattle.sets.specs.Numbers.{kappaOf, totalOf, numberOf}
-use Rattle.sets.proofs.Alike.{each, number-small, kappa-within, total-small}
+use Rattle.sets.specs.Numbers.{dimension, z1Offset, z2Offset, listOffset, kappaOf, totalOf, setNumberOf}
+use Rattle.sets.proofs.Alike.{number-small, kappa-within, total-small}
 use Rattle.byte_codes.specs.Bytes.{bytesOf}
 use Rattle.record_forms.specs.Headers.{headerOf}
+use Rattle.record_forms.proofs.Stated.{number-byte}
 use borrow.Author.Needs.{needs}
 use Rattle.record_forms.proofs.header_of.Statement.{statement}
 use Rattle.record_forms.proofs.header_of.Tie as tie
 
 -- what the casts ask
-number-fits : (n : ℕ) (s : Set) → n ≡ numberOf s → Fits w8 n
+number-fits : (n : ℕ) (s : Set) → n ≡ setNumberOf s → Fits w8 n
 number-fits n s e = omega (arith, number-small s)
 
 kappa-fits : (n : ℕ) (s : Set) → n ≡ kappaOf s → Fits w16 n
@@ -25,19 +26,19 @@ total-fits : (n : ℕ) (s : Set) → n ≡ totalOf s → Fits w16 n
 total-fits n s e = omega (arith, total-small s)
 
 abbrev put : ℕ → ℕ → List ℕ → List ℕ
-put at x l = set (set l at (x % 256)) (at + 1) (x / 256 % 256)
+put at x l = update (update l at (x % 256)) (at + 1) (x / 256 % 256)
 
 -- the array once its letters, its set and its seven numbers are written
 abbrev built : ℕ → ℕ → ℕ → List ℕ
 built number kappa total =
-    put 18 total (put 16 1560 (put 14 kappa (put 12 1048 (put 10 512 (put 8 24 (put 6 512
+    put 18 total (put 16 listOffset (put 14 kappa (put 12 z2Offset (put 10 dimension (put 8 z1Offset (put 6 dimension
     (66 ∷ 76 ∷ 66 ∷ 49 ∷ number ∷ 0 ∷ 0 ∷ 0 ∷ 0 ∷ 0 ∷ 0 ∷ 0 ∷ 0 ∷ 0 ∷ 0 ∷ 0 ∷ 0 ∷ 0 ∷ 0 ∷ 0 ∷ 0 ∷ 0 ∷ 0 ∷ 0 ∷ [])))))))
 
-built-is : (s : Set) → built (numberOf s) (kappaOf s) (totalOf s) ≡ headerOf s
+built-is : (s : Set) → built (setNumberOf s) (kappaOf s) (totalOf s) ≡ headerOf s
 unfolding headerOf bytesOf
-built-is = each _ refl refl refl refl
+built-is s = ap (λ (number : ℕ). built number (kappaOf s) (totalOf s)) (sym (number-byte s))
 
-built-at : (s : Set) (number kappa total : ℕ) → number ≡ numberOf s → kappa ≡ kappaOf s → total ≡ totalOf s → built number kappa total ≡ headerOf s
+built-at : (s : Set) (number kappa total : ℕ) → number ≡ setNumberOf s → kappa ≡ kappaOf s → total ≡ totalOf s → built number kappa total ≡ headerOf s
 built-at s number kappa total e f g = rw (e, f, g) (built-is s)
 
 array-read-header : tie.Need-array-read-header
@@ -153,11 +154,11 @@ returns c =
     let p1 = p2 .before .before .before in
     p7 .put-number7 .ensures
     ∙ ap (put 18 (p7 .before .total .result)) (p6 .put-number6 .ensures
-    ∙ ap (put 16 1560) (p5 .put-number5 .ensures
+    ∙ ap (put 16 listOffset) (p5 .put-number5 .ensures
     ∙ ap (put 14 (p5 .before .kappa .result)) (p4 .put-number4 .ensures
-    ∙ ap (put 12 1048) (p3 .put-number3 .ensures
-    ∙ ap (put 10 512) (p2 .put-number2 .ensures
-    ∙ ap (put 8 24) (p1 .put-number .ensures))))))
+    ∙ ap (put 12 z2Offset) (p3 .put-number3 .ensures
+    ∙ ap (put 10 dimension) (p2 .put-number2 .ensures
+    ∙ ap (put 8 z1Offset) (p1 .put-number .ensures))))))
     ∙ built-at (p1 .before .before .before .args .s) _ _ _ (p1 .before .before .number .ensures) (p5 .before .kappa .ensures) (p7 .before .total .ensures)
 
 pub header-of-spec : {M : Type 1} → statement M

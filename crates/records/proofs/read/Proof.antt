@@ -1,3 +1,4 @@
+mod Lent
 use Rattle.record_forms.proofs.Ways.{calls}
 use Rattle.records.specs.Reader.{readingOf}
 use Rattle.records.proofs.Buffers.{stated-total, refused-at}

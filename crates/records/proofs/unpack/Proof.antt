@@ -1,4 +1,4 @@
-use Rattle.byte_codes.specs.Bytes.{signed}
+use Rattle.byte_codes.specs.Bytes.{fromComplement}
 use Rattle.records.proofs.Buffers.{kappa-room, front-long, places-long, places-read, entries-read}
 use borrow.Author.Needs.{needs}
 use Rattle.records.proofs.unpack.Statement.{statement}
@@ -77,8 +77,8 @@ returns c =
     let w = n .before .before .before .before in
     let t = w .before .before .before in
     let s = t .before .before .before .before in (
-      entries-read (signed 16) 2 _ _ _ _ (w .unpack-wide .ensures) (s .pre .1),
-      entries-read (signed 8) 1 _ _ _ _ (n .unpack-narrow .ensures) (s .pre .2),
+      entries-read (fromComplement 16) 2 _ _ _ _ (w .unpack-wide .ensures) (s .pre .1),
+      entries-read (fromComplement 8) 1 _ _ _ _ (n .unpack-narrow .ensures) (s .pre .2),
       places-read (s .args .rec .now) (s .args .list .now) _ _ (s .args .s) (t .before .kappa .ensures) (t .total .ensures) (s .pre .3) _ (p .unpack-places .ensures),
     )
 

@@ -1,16 +1,14 @@
-use mathlib.Core.Path.{refl, sym, subst}
+use mathlib.Core.Path.{refl}
 use mathlib.Core.List.{List}
 use Prim.Native.Nat.{_+_, _*_, _≤_}
-use native.Mathlib.Nat.{mul-le-mul-left}
-use native.Mathlib.Omega.{arith}
 use borrow.Author.Needs.{needs}
 use lib.IntN.{ℤ}
 use Rattle.sets.specs.Numbers.{kappaOf, keyLimitOf}
-use Rattle.sets.proofs.Alike.{kappa-within}
 use Rattle.vectors.specs.Vectors.{squares}
-use Rattle.vectors.proofs.Rising.{proper-count, proper-places}
-use Rattle.choices.specs.Choices.{Pair, pair, squaresPair}
-use Rattle.choices.proofs.Bound.{choices-bound}
+use Rattle.vectors.proofs.Rising.{proper-places}
+use Rattle.vectors.specs.Pairs.{pair}
+use Rattle.choices.proofs.Pairs.{Within}
+use Rattle.signing.proofs.Ways.{few-places, chosen-short, chosen-within}
 use Rattle.response_points.proofs.choose.Statement.{statement}
 use Rattle.response_points.proofs.choose.Tie as tie
 
@@ -24,7 +22,7 @@ choose-requires : tie.Need-choose-requires
 choose-requires c κs =
     let p = c .before .before .before .pre in
     let a = c .before .before .before .args in
-    (p .0, ((omega (arith, proper-count (a .s) (a .list .now) (p .1 .1), kappa-within (a .s)), proper-places (a .s) (a .list .now) (p .1 .1)), (refl, refl)))
+    (p .0, ((few-places (a .s) (a .list .now) (p .1 .1), proper-places (a .s) (a .list .now) (p .1 .1)), (refl, refl)))
 
 module _ (c : tie.After-choose) where
   abbrev start : tie.Start
@@ -36,18 +34,15 @@ module _ (c : tie.After-choose) where
   abbrev v2 : List ℤ
   v2 = c .choose .last .1 .1 .1 .1 .0
 
-  abbrev key : Pair
-  key = pair (start .args .s1 .now) (start .args .s2 .now)
-
   short : squares v1 + squares v2 ≤ kappaOf (start .args .s) * keyLimitOf (start .args .s)
   short =
-      subst (λ (v : Pair). squaresPair v ≤ kappaOf (start .args .s) * keyLimitOf (start .args .s)) (sym (c .choose .ensures))
-      (omega (
-        arith,
-        rw (proper-count (start .args .s) (start .args .list .now) (start .pre .1 .1)) at
-            (choices-bound key (record { first = start .pre .0 .0; second = start .pre .0 .1 }) (start .args .list .now)),
-        mul-le-mul-left (kappaOf (start .args .s)) (start .pre .1 .0),
-      ))
+      chosen-short (start .args .s) (start .args .s1 .now) (start .args .s2 .now) (start .args .list .now) (start .pre .0 .0) (start .pre .0 .1) (start .pre .1 .1) v1 v2
+      (c .choose .ensures) (start .pre .1 .0)
+
+  small : Within (kappaOf (start .args .s) * 5) (pair v1 v2)
+  small =
+      chosen-within (start .args .s) (start .args .s1 .now) (start .args .s2 .now) (start .args .list .now) (start .pre .0 .0) (start .pre .0 .1) (start .pre .1 .1) v1 v2
+      (c .choose .ensures) (start .pre .0 .2) (start .pre .0 .3)
 
 slice-aggregate-show : tie.Need-slice-aggregate-show
 slice-aggregate-show c = search needs
@@ -57,7 +52,8 @@ slice-aggregate-show-2 c = search needs
 
 show-requires : tie.Need-show-requires
 show-requires c κs =
-    (search needs, search needs, short (c .before .before .before .before))
+    let k = c .before .before .before .before in
+    ((search needs, search needs, short k), (small k .first, small k .second))
 
 returns : tie.Need-returns
 returns c = search needs

@@ -1,31 +1,24 @@
 use mathlib.Core.Path.{_≡_, refl}
 use mathlib.Core.Bool.{true}
-use Prim.Native.Nat.{_≤_}
 use native.Mathlib.Omega.{arith}
 use borrow.Author.Needs.{needs}
-use lib.Dec.{lit≤}
 use lib.IntN.{pos}
-use lib.ListN.{length-take, set}
+use lib.ListN.{length-take, set as update}
 use Rattle.laws.specs.Lists.{every}
 use Rattle.laws.proofs.Chain.{passed}
-use Rattle.sets.specs.declared.Set.{Set}
-use Rattle.sets.specs.Numbers.{keyLimitOf}
-use Rattle.sets.proofs.Alike.{each, kappa-within}
+use Rattle.sets.proofs.Alike.{kappa-within}
 use Rattle.vectors.specs.Vectors.{within, squares}
 use Rattle.choices.specs.Choices.{zeros}
 use Rattle.response_points.proofs.print_response.Statement.{statement}
 use Rattle.response_points.proofs.print_response.Tie as tie
 
-one-within : every (within 5) (set zeros 0 (pos 1)) ≡ true
+one-within : every (within 5) (update zeros 0 (pos 1)) ≡ true
 unfolding every
 one-within = refl
 
-one-squares : squares (set zeros 0 (pos 1)) ≡ 1
+one-squares : squares (update zeros 0 (pos 1)) ≡ 1
 unfolding squares
 one-squares = refl
-
-limit-above : (s : Set) → 2 ≤ keyLimitOf s
-limit-above = each _ (lit≤ tt) (lit≤ tt) (lit≤ tt) (lit≤ tt)
 
 array-set-of-one : tie.Need-array-set-of-one
 array-set-of-one c = search needs
@@ -45,11 +38,17 @@ array-share-prefix-places c = omega (arith, c .kappa .ensures, kappa-within (c .
 slice-aggregate-list : tie.Need-slice-aggregate-list
 slice-aggregate-list c = simp length-take (omega (arith, c .before .kappa .ensures, kappa-within (c .before .before .before .before .before .args .s)))
 
-is-proper-requires : tie.Need-is-proper-requires
-is-proper-requires c κs = search needs
+key-limit-requires : tie.Need-key-limit-requires
+key-limit-requires c κs = search needs
 
 returns : tie.Need-returns
 returns c = search needs
+
+is-proper-requires : tie.Need-is-proper-requires
+is-proper-requires c κs = search needs
+
+returns-2 : tie.Need-returns-2
+returns-2 c = search needs
 
 slice-aggregate-choose : tie.Need-slice-aggregate-choose
 slice-aggregate-choose c = search needs
@@ -60,11 +59,11 @@ slice-aggregate-choose-2 c = search needs
 choose-requires : tie.Need-choose-requires
 choose-requires c κs =
     let t = c .before .before in
-    let s = t .before .before .before .before .before .before .before .args .s in
-    ((search needs, search needs, one-within, one-within), (omega (arith, one-squares, limit-above s), passed (t .before .is-proper .ensures) (t .if1 .left)))
+    let u = t .before .before in
+    ((search needs, search needs, one-within, one-within), (omega (arith, one-squares, u .before .key-limit .ensures, u .if1 .left), passed (t .before .is-proper .ensures) (t .if2 .left)))
 
-returns-2 : tie.Need-returns-2
-returns-2 c = search needs
+returns-3 : tie.Need-returns-3
+returns-3 c = search needs
 
 pub print-response-spec : {M : Type 1} → statement M
 print-response-spec =
@@ -76,9 +75,11 @@ print-response-spec =
     kappa-requires
     array-share-prefix-places
     slice-aggregate-list
-    is-proper-requires
+    key-limit-requires
     returns
+    is-proper-requires
+    returns-2
     slice-aggregate-choose
     slice-aggregate-choose-2
     choose-requires
-    returns-2)
+    returns-3)

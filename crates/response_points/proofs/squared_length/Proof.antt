@@ -23,7 +23,7 @@ add-result : tie.Need-add-result
 add-result c = omega (arith, whole c, start c .pre .2)
 
 returns : tie.Need-returns
-returns c = whole c
+returns c = search needs
 
 pub squared-length-spec : {M : Type 1} → statement M
 squared-length-spec = tie.close (tie.spec squared-length-requires squared-length-requires-2 add-result returns)

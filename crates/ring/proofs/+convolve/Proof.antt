@@ -4,19 +4,20 @@ use mathlib.Core.List.{List, _++_}
 use Prim.Native.Nat.{ℕ, _<_, _+_, _-_, _/_}
 use native.Mathlib.Omega.{arith}
 use lib.ListN.{length, take, drop, getD, length-drop}
-use lib.Seq.{length-take-le, take-all}
+use lib.Seq.{length-take-le}
 use borrow.Fn.Kinds.{In}
 use borrow.Fn.PlainCycle.{Measures, is, falls, and}
 use borrow.Rule.Slice.PartMut.{putMid}
-use Rattle.ring.specs.Transform.{Within, productModulo, size, convolution, joined}
+use Rattle.sets.specs.Numbers.{modulus}
+use Rattle.ring.specs.Transform.{Within, size, convolution, joined}
 use Rattle.ring.proofs.Zips.{within-of, within-append, within-take, within-drop}
 use Rattle.ring.proofs.Spectra.{within-convolution}
-use Rattle.ring.proofs.Halves.{still-two, second-half, both-back, back-two}
-use Rattle.ring.proofs.Layers.{length-powers, power-at, power-small, halved, within-first, within-second, convolution-layer, convolution-leaf, size-leaf}
+use Rattle.ring.proofs.Halves.{rest-lent, still-two, second-half, both-back, back-two}
+use Rattle.ring.proofs.Layers.{length-powers, power-at, power-small, halved, last-size, within-first, within-second, convolution-layer}
 use Rattle.ring.proofs.convolve.Reads as convolve
 use Rattle.ring.proofs.convolve.Kinds as kinds
 use Rattle.ring.proofs.+convolve.Lts-convolve as lts
-use Rattle.ring.proofs.block.Reads as block-reads
+use Rattle.ring.proofs.two_blocks.Reads as two-blocks-reads
 use Rattle.ring.proofs.join.Reads as join-reads
 use Rattle.ring.proofs.split.Reads as split-reads
 use Rattle.ring.proofs.+convolve.{statement}
@@ -33,7 +34,7 @@ below t = and 3 kinds.ps (falls 3 kinds.ps _<_ μ t) convolve.Pre
 
 abbrev known : ℕ → lts.Claims
 known t =
-    (split-reads.Asked, split-reads.Learnt, below t, convolve.Post, join-reads.Asked, join-reads.Learnt, block-reads.Asked, block-reads.Learnt)
+    (split-reads.Asked, split-reads.Learnt, below t, convolve.Post, join-reads.Asked, join-reads.Learnt, two-blocks-reads.Asked, two-blocks-reads.Learnt)
 
 module _ (t : ℕ) where
   -- where there is something to split
@@ -55,26 +56,25 @@ module _ (t : ℕ) where
     root i = getD (start .args .powers .now) i 0
 
     halves : (h ≡ size (start .args .k - 1)) × (length l ≡ h + h)
-    halves = halved (start .args .k) (length l) (c .if1 .taken) (start .pre .1 .0)
+    halves = halved (start .args .k) (length l) (start .pre .1 .0) (start .pre .1 .1)
 
     key-two : length key ≡ h + h
-    key-two = start .pre .1 .1 ∙ sym (start .pre .1 .0) ∙ halves .1
+    key-two = start .pre .1 .2 ∙ sym (start .pre .1 .1) ∙ halves .1
 
-    -- the second half of the key's remainders, as it is lent
     key-lent : take (length key - h) (drop h key) ≡ drop h key
-    key-lent = take-all (length key - h) (drop h key) (omega (arith, length-drop h key))
+    key-lent = rest-lent h key
 
     key-rest : length (drop h key) ≡ size (start .args .k - 1)
     key-rest = length-drop h key ∙ omega (arith, key-two) ∙ halves .0
 
     exponent : start .args .e / 2 < 512
-    exponent = omega (arith, start .pre .1 .2)
+    exponent = omega (arith, start .pre .1 .3)
 
-    root-small : (i : ℕ) → i < 1024 → root i < 12289
-    root-small i p = omega (arith, power-small (start .args .powers .now) (start .pre .1 .3) i p)
+    root-small : (i : ℕ) → i < 1024 → root i < modulus
+    root-small = power-small (start .args .powers .now) (start .pre .1 .4)
 
     table-long : length (start .args .powers .now) ≡ 1024
-    table-long = length-powers (start .args .powers .now) (start .pre .1 .3)
+    table-long = length-powers (start .args .powers .now) (start .pre .1 .4)
 
   -- once it is split
   module _ (c : lts.After-split (known t) (at t) convolve.Post) where
@@ -142,7 +142,7 @@ module _ (t : ℕ) where
   split-requires : lts.Need-split-requires (known t) (at t) convolve.Post
   split-requires c κs =
       let then = c .before .before in
-      (halves then .1, root-small then _ (omega (arith, exponent then)), start then .pre .1 .4)
+      (halves then .1, root-small then _ (omega (arith, exponent then)), start then .pre .1 .5)
 
   slice-relend-prefix-convolve : lts.Need-slice-relend-prefix-convolve (known t) (at t) convolve.Post
   slice-relend-prefix-convolve c = omega (arith, two (c .before .before))
@@ -158,7 +158,7 @@ module _ (t : ℕ) where
       sym (length-take-le (h then) (key then) (omega (arith, key-two then)))
 
   sub-convolve : lts.Need-sub-convolve (known t) (at t) convolve.Post
-  sub-convolve c = then (c .before .before .before .before) .if1 .taken
+  sub-convolve c = start (then (c .before .before .before .before)) .pre .1 .0
 
   convolve-requires : lts.Need-convolve-requires (known t) (at t) convolve.Post
   convolve-requires c κs =
@@ -166,12 +166,13 @@ module _ (t : ℕ) where
       let then = then split in (
         omega (arith, then .if1 .taken),
         (
+          omega (arith, then .if1 .taken),
           length-take-le (h then) (s split) (omega (arith, two split)) ∙ halves then .0,
           length-take-le (h then) (key then) (omega (arith, key-two then)) ∙ halves then .0,
           omega (arith, exponent then),
-          start then .pre .1 .3,
+          start then .pre .1 .4,
           first-small split,
-          within-take 12288 (h then) (key then) (start then .pre .1 .5),
+          within-take 12288 (h then) (key then) (start then .pre .1 .6),
         ),
       )
 
@@ -200,7 +201,7 @@ module _ (t : ℕ) where
   part-convolve-end-2 c = omega (arith, key-two (then (split (c .before .before .before))))
 
   sub-convolve-4 : lts.Need-sub-convolve-4 (known t) (at t) convolve.Post
-  sub-convolve-4 c = then (split (c .before .before .before .before)) .if1 .taken
+  sub-convolve-4 c = start (then (split (c .before .before .before .before))) .pre .1 .0
 
   add-convolve : lts.Need-add-convolve (known t) (at t) convolve.Post
   add-convolve c = omega arith
@@ -212,12 +213,13 @@ module _ (t : ℕ) where
       let then = then split in (
         omega (arith, then .if1 .taken),
         (
+          omega (arith, then .if1 .taken),
           ap length (lent first) ∙ length-drop (h then) (s split) ∙ omega (arith, two split) ∙ halves then .0,
           ap length (key-lent then) ∙ key-rest then,
           omega (arith, exponent then),
-          start then .pre .1 .3,
+          start then .pre .1 .4,
           rw (lent first) (second-small split),
-          rw (key-lent then) (within-drop 12288 (h then) (key then) (start then .pre .1 .5)),
+          rw (key-lent then) (within-drop 12288 (h then) (key then) (start then .pre .1 .6)),
         ),
       )
 
@@ -235,19 +237,11 @@ module _ (t : ℕ) where
       let both = c .before .before .before .before in
       (back-long both, root-small (then (split (first both))) _ (omega arith), back-small both)
 
-  mul-block : lts.Need-mul-block (known t) (at t) convolve.Post
-  mul-block c = omega arith
-
-  shared-slice-read-block : lts.Need-shared-slice-read-block (known t) (at t) convolve.Post
-  shared-slice-read-block c =
-      let start = c .before .before .before .before .before .before in
-      omega (arith, length-powers (start .args .powers .now) (start .pre .1 .3), start .pre .1 .2)
-
-  block-requires : lts.Need-block-requires (known t) (at t) convolve.Post
-  block-requires c κs =
-      let start = c .before .before .before .before .before .before in
-      let eight = size-leaf (start .args .k) (c .before .before .if1 .left) in
-      (start .pre .1 .0 ∙ eight, start .pre .1 .1 ∙ eight, omega (arith, power-small (start .args .powers .now) (start .pre .1 .3) (start .args .e) (start .pre .1 .2)), start .pre .1 .4, start .pre .1 .5)
+  two-blocks-requires : lts.Need-two-blocks-requires (known t) (at t) convolve.Post
+  two-blocks-requires c κs =
+      let start = c .before .before .before .before .before in
+      let last = c .before .if1 .left in
+      (last-size _ _ (start .pre .1 .0) last (start .pre .1 .1) .1, last-size _ _ (start .pre .1 .0) last (start .pre .1 .2) .1, start .pre .1 .3, start .pre .1 .4, start .pre .1 .5, start .pre .1 .6)
 
   same-length : lts.Need-same-length (known t) (at t) convolve.Post
   same-length c =
@@ -262,10 +256,10 @@ module _ (t : ℕ) where
       let then = then split in
       let start = start then in
       let k = start .args .k - 1 in
-      convolution-layer (start .args .k) (start .args .e) (root then (start .args .e / 2)) (root then (512 - start .args .e / 2)) (key then) (l then) (s split) (m first) (n both) (c .before .before .join .last .0)
-      (then .if1 .taken) (start .pre .1 .0)
-      (power-at (start .args .powers .now) (start .pre .1 .3) (start .args .e / 2) (omega (arith, exponent then)))
-      (power-at (start .args .powers .now) (start .pre .1 .3) (512 - start .args .e / 2) (omega arith))
+      convolution-layer (start .args .k) (start .args .e) (h then) (root then (start .args .e / 2)) (root then (512 - start .args .e / 2)) (key then) (l then) (s split) (m first) (n both) (c .before .before .join .last .0)
+      (start .pre .1 .0) (halves then .0) (halves then .1)
+      (power-at (start .args .powers .now) (start .pre .1 .4) (start .args .e / 2) (omega (arith, exponent then)))
+      (power-at (start .args .powers .now) (start .pre .1 .4) (512 - start .args .e / 2) (omega arith))
       (split .split .ensures)
       (first .convolve .ensures)
       (both .convolve2 .ensures ∙ ap₂ (convolution k (start .args .e / 2 + 512)) (key-lent then) (lent first))
@@ -273,17 +267,14 @@ module _ (t : ℕ) where
       (c .before .before .join .ensures ∙ ap (λ (r : List ℕ). joined (root then (512 - start .args .e / 2)) (take (h then) r) (drop (h then) r)) (back-is both))
 
   same-length-2 : lts.Need-same-length-2 (known t) (at t) convolve.Post
-  same-length-2 c = c .before .before .block .kept .0
+  same-length-2 c = c .before .before .two-blocks .kept .0
 
   returns-2 : lts.Need-returns-2 (known t) (at t) convolve.Post
   returns-2 c =
-      let else = c .before .before .before .before .before in
+      let else = c .before .before .before .before in
       let start = else .before .before .before .before in
-      let f = start .args .f .now in
-      let l = start .args .s .now in
-      c .before .before .block .ensures
-      ∙ ap (λ (w : ℕ). productModulo w f l) (power-at (start .args .powers .now) (start .pre .1 .3) (start .args .e) (start .pre .1 .2))
-      ∙ convolution-leaf (start .args .k) (start .args .e) f l (else .if1 .left)
+      let one : 1 ≡ start .args .k = omega (arith, start .pre .1 .0, else .if1 .left) in
+      c .before .before .two-blocks .ensures ∙ ap (λ (k : ℕ). convolution k (start .args .e) (start .args .f .now) (start .args .s .now)) one
 
 pub +convolve-spec : {M : Type 1} → statement M
 +convolve-spec = close μ λ t. lts.spec (known t)
@@ -312,9 +303,7 @@ pub +convolve-spec : {M : Type 1} → statement M
     (mul-join t)
     (shared-slice-read-join t)
     (join-requires t)
-    (mul-block t)
-    (shared-slice-read-block t)
-    (block-requires t)
+    (two-blocks-requires t)
     (same-length t)
     (returns t)
     (same-length-2 t)

@@ -1,15 +1,15 @@
 -- `ring::decompose` meets its contract. The measure is k: the halves are split once less. Assumes nothing.
 use mathlib.Core.Path.{_≡_, ap, sym, _∙_}
 use mathlib.Core.List.{List, _++_}
-use Prim.Native.Nat.{ℕ, _<_, _+_, _-_, _/_}
+use Prim.Native.Nat.{ℕ, _<_, _≤_, _+_, _-_, _/_}
 use native.Mathlib.Omega.{arith}
-use lib.ListN.{length, take, drop, getD, length-drop}
+use lib.ListN.{length, take, drop, getD, length-drop, take-append-drop}
 use lib.Seq.{length-take-le}
 use borrow.Fn.Kinds.{In}
 use borrow.Fn.PlainCycle.{Measures, is, falls, and}
 use Rattle.ring.specs.Transform.{Within, size, remainders}
 use Rattle.ring.proofs.Halves.{still-two, second-half, both-back, back-two}
-use Rattle.ring.proofs.Layers.{length-powers, power-at, power-small, halved, within-first, within-second, remainders-layer, remainders-leaf}
+use Rattle.ring.proofs.Layers.{length-powers, power-at, power-small, halved, last-size, within-first, within-second, remainders-layer, remainders-leaf}
 use Rattle.ring.proofs.decompose.Reads as decompose
 use Rattle.ring.proofs.decompose.Kinds as kinds
 use Rattle.ring.proofs.+decompose.Lts-decompose as lts
@@ -42,10 +42,10 @@ module _ (t : ℕ) where
     h = length l / 2
 
     halves : (h ≡ size (start .args .k - 1)) × (length l ≡ h + h)
-    halves = halved (start .args .k) (length l) (c .if1 .taken) (start .pre .1 .0)
+    halves = halved (start .args .k) (length l) (start .pre .1 .0) (start .pre .1 .1)
 
     exponent : start .args .e / 2 < 1024
-    exponent = omega (arith, start .pre .1 .1)
+    exponent = omega (arith, start .pre .1 .2)
 
   -- once it is split
   module _ (c : lts.After-split (known t) (at t) decompose.Post) where
@@ -82,13 +82,13 @@ module _ (t : ℕ) where
   mul-split c = omega arith
 
   shared-slice-read-split : lts.Need-shared-slice-read-split (known t) (at t) decompose.Post
-  shared-slice-read-split c = let start = start (c .before .before) in omega (arith, length-powers (start .args .powers .now) (start .pre .1 .2))
+  shared-slice-read-split c = let start = start (c .before .before) in omega (arith, length-powers (start .args .powers .now) (start .pre .1 .3))
 
   split-requires : lts.Need-split-requires (known t) (at t) decompose.Post
   split-requires c κs =
       let then = c .before .before in
       let start = start then in
-      (halves then .1, omega (arith, power-small (start .args .powers .now) (start .pre .1 .2) (start .args .e / 2) (exponent then)), start .pre .1 .3)
+      (halves then .1, power-small (start .args .powers .now) (start .pre .1 .3) _ (omega (arith, exponent then)), start .pre .1 .4)
 
   slice-relend-prefix-decompose : lts.Need-slice-relend-prefix-decompose (known t) (at t) decompose.Post
   slice-relend-prefix-decompose c = omega (arith, two (c .before .before))
@@ -99,13 +99,13 @@ module _ (t : ℕ) where
       sym (length-take-le (h (then split)) (s split) (omega (arith, two split)))
 
   sub-decompose : lts.Need-sub-decompose (known t) (at t) decompose.Post
-  sub-decompose c = then (c .before .before .before) .if1 .taken
+  sub-decompose c = start (then (c .before .before .before)) .pre .1 .0
 
   decompose-requires : lts.Need-decompose-requires (known t) (at t) decompose.Post
   decompose-requires c κs =
       let split = c .before .before .before in
       let then = then split in
-      (omega (arith, then .if1 .taken), (length-take-le (h then) (s split) (omega (arith, two split)) ∙ halves then .0, exponent then, start then .pre .1 .2, first-small split))
+      (omega (arith, then .if1 .taken), (omega (arith, then .if1 .taken), length-take-le (h then) (s split) (omega (arith, two split)) ∙ halves then .0, exponent then, start then .pre .1 .3, first-small split))
 
   mul-decompose : lts.Need-mul-decompose (known t) (at t) decompose.Post
   mul-decompose c = omega arith
@@ -120,7 +120,7 @@ module _ (t : ℕ) where
   part-decompose-end c = omega (arith, two-left (c .before .before))
 
   sub-decompose-3 : lts.Need-sub-decompose-3 (known t) (at t) decompose.Post
-  sub-decompose-3 c = then (split (c .before .before .before)) .if1 .taken
+  sub-decompose-3 c = start (then (split (c .before .before .before))) .pre .1 .0
 
   add-decompose : lts.Need-add-decompose (known t) (at t) decompose.Post
   add-decompose c = omega arith
@@ -132,7 +132,7 @@ module _ (t : ℕ) where
       let then = then split in
       let lent = second-half (h then) (s split) (m first) (two split) (as-long first) in (
         omega (arith, then .if1 .taken),
-        (ap length lent ∙ length-drop (h then) (s split) ∙ omega (arith, two split) ∙ halves then .0, omega (arith, start then .pre .1 .1), start then .pre .1 .2, rw lent (second-small split)),
+        (omega (arith, then .if1 .taken), ap length lent ∙ length-drop (h then) (s split) ∙ omega (arith, two split) ∙ halves then .0, omega (arith, start then .pre .1 .2), start then .pre .1 .3, rw lent (second-small split)),
       )
 
   same-length : lts.Need-same-length (known t) (at t) decompose.Post
@@ -149,15 +149,44 @@ module _ (t : ℕ) where
       let start = start then in
       let n = c .before .before .decompose2 .last .0 in
       both-back (h then) (s split) (m first) (two split) (as-long first) n (c .before .before .decompose2 .kept .0)
-      ∙ remainders-layer (start .args .k) (start .args .e) (getD (start .args .powers .now) (start .args .e / 2) 0) (l then) (s split) (m first) n
-      (then .if1 .taken) (start .pre .1 .0) (power-at (start .args .powers .now) (start .pre .1 .2) (start .args .e / 2) (exponent then)) (split .split .ensures)
+      ∙ remainders-layer (start .args .k) (start .args .e) (h then) (getD (start .args .powers .now) (start .args .e / 2) 0) (l then) (s split) (m first) n
+      (start .pre .1 .0) (halves then .0) (halves then .1) (power-at (start .args .powers .now) (start .pre .1 .3) (start .args .e / 2) (exponent then)) (split .split .ensures)
       (first .decompose .ensures)
       (c .before .before .decompose2 .ensures ∙ ap (remainders (start .args .k - 1) (start .args .e / 2 + 512)) (second-half (h then) (s split) (m first) (two split) (as-long first)))
 
+  -- where its halves are split no more
+  module _ (c : lts.Else1 (known t) (at t) decompose.Post) where
+    abbrev start-last : lts.Start (known t) (at t) decompose.Post
+    start-last = c .before .before .before
+
+    sixteen : (8 ≡ size (start-last .args .k - 1)) × (length (start-last .args .s .now) ≡ 16)
+    sixteen = last-size (start-last .args .k) (length (start-last .args .s .now)) (start-last .pre .1 .0) (c .if1 .left) (start-last .pre .1 .1)
+
+  mul-split-2 : lts.Need-mul-split-2 (known t) (at t) decompose.Post
+  mul-split-2 c = omega arith
+
+  shared-slice-read-split-2 : lts.Need-shared-slice-read-split-2 (known t) (at t) decompose.Post
+  shared-slice-read-split-2 c = let start = start-last (c .before .before) in omega (arith, length-powers (start .args .powers .now) (start .pre .1 .3), start .pre .1 .2)
+
+  split-requires-2 : lts.Need-split-requires-2 (known t) (at t) decompose.Post
+  split-requires-2 c κs =
+      let start = start-last (c .before .before) in
+      (sixteen (c .before .before) .1, power-small (start .args .powers .now) (start .pre .1 .3) _ (omega (arith, start .pre .1 .2)), start .pre .1 .4)
+
+  same-length-2 : lts.Need-same-length-2 (known t) (at t) decompose.Post
+  same-length-2 c = c .before .before .split2 .kept .0
+
   returns-2 : lts.Need-returns-2 (known t) (at t) decompose.Post
   returns-2 c =
-      let start = c .before .before .before in
-      remainders-leaf (start .args .k) (start .args .e) (start .args .s .now) (c .if1 .left)
+      let else = c .before .before .before .before .before in
+      let start = start-last else in
+      let k = start .args .k in
+      let s = c .before .before .split2 .last .0 in
+      let none : k - 1 ≤ 0 = omega (arith, else .if1 .left) in
+      sym (take-append-drop 8 s)
+      ∙ remainders-layer k (start .args .e) 8 (getD (start .args .powers .now) (start .args .e / 2) 0) (start .args .s .now) s (take 8 s) (drop 8 s)
+      (start .pre .1 .0) (sixteen else .0) (sixteen else .1) (power-at (start .args .powers .now) (start .pre .1 .3) (start .args .e / 2) (omega (arith, start .pre .1 .2))) (c .before .before .split2 .ensures)
+      (remainders-leaf (k - 1) _ (take 8 s) none) (remainders-leaf (k - 1) _ (drop 8 s) none)
 
 pub +decompose-spec : {M : Type 1} → statement M
 +decompose-spec = close μ λ t. lts.spec (known t)
@@ -177,6 +206,10 @@ pub +decompose-spec : {M : Type 1} → statement M
     (sub-decompose-3 t)
     (add-decompose t)
     (decompose-requires-2 t)
+    (mul-split-2 t)
+    (shared-slice-read-split-2 t)
+    (split-requires-2 t)
     (same-length t)
     (returns t)
+    (same-length-2 t)
     (returns-2 t)

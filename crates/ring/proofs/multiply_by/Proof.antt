@@ -19,6 +19,7 @@ unfolding size
 convolve-requires c κs =
     let done = c .before .before .before in
     let start = done .before .before .before .before .before .before in (
+      omega arith,
       done .signed-residues .kept .0 ∙ start .pre .2,
       ap length (start .pre .3) ∙ length-spectrum (start .args .a .now) (start .pre .0),
       omega arith,

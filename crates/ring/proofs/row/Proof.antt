@@ -4,7 +4,7 @@ use mathlib.Core.List.{List, [], _∷_}
 use Prim.Native.Nat.{ℕ, zero, suc, _≤_, _-_, _+_, _*_, _%_}
 use native.Mathlib.Nat.{not-suc-le-zero}
 use native.Mathlib.Omega.{arith}
-use lib.ListN.{length, getD, take, drop, set, length-set}
+use lib.ListN.{length, getD, take, drop, set as update, length-set}
 use lib.Seq.{length-take-le, getD-take, take-set-lt}
 use Rattle.laws.specs.Lists.{zipWith}
 use Rattle.laws.proofs.Entries.{length-zipWith, getD-zipWith}
@@ -24,7 +24,7 @@ length-added a s c e p =
     length-zipWith (λ y z. z + a * y) s (take 8 c) (e ∙ sym l) ∙ e ∙ sym l
 
 -- the entries that the first row is added to
-opened : (c : List ℕ) (v : ℕ) → 9 ≤ length c → take 8 (set c 0 v) ≡ v ∷ take 7 (drop 1 c)
+opened : (c : List ℕ) (v : ℕ) → 9 ≤ length c → take 8 (update c 0 v) ≡ v ∷ take 7 (drop 1 c)
 opened [] v p = absurd (not-suc-le-zero p)
 opened (x ∷ c) v p = refl
 
@@ -44,7 +44,7 @@ module _ (c : tie.Start Inv-loop μ-loop) where
   head = c .args .w * (getD (c .args .c .now) 8 0 % 12289)
 
   abbrev set-list : List ℕ
-  set-list = set (c .args .c .now) 0 head
+  set-list = update (c .args .c .now) 0 head
 
   head-small : head ≤ 150994944
   head-small = residues-product (omega arith) (omega arith)

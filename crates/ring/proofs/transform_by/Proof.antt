@@ -16,7 +16,7 @@ unfolding size
 decompose-requires c κs =
     let done = c .before .before .before in
     let start = done .before .before .before .before .before in
-    (done .residues .kept .0 ∙ start .pre .1, omega arith, start .pre .2, within-of (done .residues .last .0) _ (done .residues .ensures) (within-residues (start .args .a .now)))
+    (omega arith, done .residues .kept .0 ∙ start .pre .1, omega arith, start .pre .2, within-of (done .residues .last .0) _ (done .residues .ensures) (within-residues (start .args .a .now)))
 
 same-length : tie.Need-same-length
 same-length c = search needs

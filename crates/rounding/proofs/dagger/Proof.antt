@@ -1,6 +1,5 @@
-use mathlib.Core.Path.{_≡_, ap, _∙_}
-use Prim.Native.Nat.{ℕ, _+_, _-_, _%_, _<_, _≤_}
-use native.Mathlib.Nat.{mod-eq-of-lt}
+use mathlib.Core.Path.{_≡_, ap, ap₂, _∙_}
+use Prim.Native.Nat.{ℕ, _+_, _-_, _<_, _≤_}
 use native.Mathlib.Omega.{arith}
 use borrow.Author.Needs.{needs}
 use lib.Dec.{lit<}
@@ -13,7 +12,8 @@ use Rattle.sets.specs.declared.Set.{Set}
 use Rattle.sets.specs.Numbers.{twiceModulus, pOf}
 use Rattle.sets.proofs.Alike.{p-small}
 use Rattle.rounding.specs.Rounding.{upper, centred, dagger}
-use Rattle.rounding.proofs.Digits.{upper-lt, centred-same, difference-wraps}
+use Rattle.rounding.proofs.Laws.{upper-below}
+use Rattle.rounding.proofs.Digits.{centred-same, difference-wraps}
 use Rattle.rounding.proofs.dagger.Statement.{statement}
 use Rattle.rounding.proofs.dagger.Tie as tie
 
@@ -24,44 +24,43 @@ difference-requires : tie.Need-difference-requires
 difference-requires c κs = search needs
 
 upper-digits-requires-2 : tie.Need-upper-digits-requires-2
-upper-digits-requires-2 c κs = search needs
+upper-digits-requires-2 c κs =
+    let h = c .before .before .pre in
+    (h .0, h .1, rw (c .difference .ensures) (residue-lt (lit< tt) _))
 
-p-requires : tie.Need-p-requires
-p-requires c κs = search needs
-
-module _ (c : tie.After-p) where
+module _ (c : tie.After-upper-digits2) where
   abbrev start : tie.Start
-  start = c .before .before .before .before
+  start = c .before .before .before
 
   abbrev s : Set
   s = start .args .s
 
   abbrev whole : ℕ
-  whole = upper s (start .args .u)
+  whole = c .before .before .upper-digits .result
 
   abbrev rest : ℕ
-  rest = upper s (residue twiceModulus (pos (start .args .u) -ℤ start .args .z))
+  rest = c .upper-digits2 .result
 
-  whole-is : c .before .before .before .upper-digits .result ≡ whole
-  whole-is = c .before .before .before .upper-digits .ensures ∙ ap (upper s) (mod-eq-of-lt (start .pre))
+  abbrev below : ℕ
+  below = residue twiceModulus (pos (start .args .u) -ℤ start .args .z)
 
-  rest-is : c .before .upper-digits2 .result ≡ rest
+  rest-is : rest ≡ upper s below
   rest-is =
-      c .before .upper-digits2 .ensures
-      ∙ ap (λ (n : ℕ). upper s (n % twiceModulus)) (c .before .before .difference .ensures ∙ ap (λ (z : ℤ). residue twiceModulus (pos (start .args .u) -ℤ z)) (given (start .fits .z) .back))
-      ∙ ap (upper s) (mod-eq-of-lt (residue-lt (lit< tt) (pos (start .args .u) -ℤ start .args .z)))
+      c .upper-digits2 .ensures
+      ∙ ap (upper s) (c .before .difference .ensures ∙ ap (λ (z : ℤ). residue twiceModulus (pos (start .args .u) -ℤ z)) (given (start .fits .z) .back))
 
-  sizes : (whole < pOf s) × (rest < pOf s) × (c .p .result ≡ pOf s) × (pOf s ≤ 96)
-  sizes = (upper-lt s _, upper-lt s _, c .p .ensures, p-small s)
+  sizes : (whole < pOf s) × (rest < pOf s) × (start .args .p ≡ pOf s) × (pOf s ≤ 96)
+  sizes =
+      (omega (arith, c .before .before .upper-digits .ensures, upper-below s (start .args .u)), omega (arith, rest-is, upper-below s below), start .pre .1, p-small s)
 
 add-wrap : tie.Need-add-wrap
-add-wrap c = omega (arith, whole-is c, sizes c)
+add-wrap c = omega (arith, sizes c)
 
 sub-wrap : tie.Need-sub-wrap
-sub-wrap c = omega (arith, whole-is c, rest-is c, sizes c)
+sub-wrap c = omega (arith, sizes c)
 
 wrap-requires : tie.Need-wrap-requires
-wrap-requires c κs = omega (arith, whole-is c, rest-is c, sizes c)
+wrap-requires c κs = omega (arith, sizes c)
 
 centre-requires : tie.Need-centre-requires
 centre-requires c κs = search needs
@@ -69,13 +68,14 @@ centre-requires c κs = search needs
 returns : tie.Need-returns
 unfolding dagger
 returns c =
-    let p = c .before .before in
-    let moved : c .before .wrap .result ≡ residue (pOf (s p)) (pos (whole p + pOf (s p) - rest p)) =
+    let b = c .before .before in
+    let moved : c .before .wrap .result ≡ residue (pOf (s b)) (pos (whole b + pOf (s b) - rest b)) =
     c .before .wrap .ensures .0
-    ∙ ap (λ (n : ℕ). residue (pOf (s p)) (pos n)) (omega (arith, whole-is p, rest-is p, sizes p)) in
+    ∙ ap₂ (λ (p n : ℕ). residue p (pos n)) (start b .pre .1) (omega (arith, sizes b)) in
     element w8 (c .centre .result) (c .centre .ok) .back ∙ c .centre .ensures
-    ∙ ap (λ (n : ℕ). centred (s p) (pos n)) moved
-    ∙ centred-same (s p) _ _ (difference-wraps (s p) (whole p) (rest p) (omega (arith, sizes p)))
+    ∙ ap (λ (n : ℕ). centred (s b) (pos n)) moved
+    ∙ centred-same (s b) _ _ (difference-wraps (s b) (whole b) (rest b) (omega (arith, sizes b)))
+    ∙ ap₂ (λ (x y : ℕ). centred (s b) (pos x -ℤ pos y)) (b .before .before .upper-digits .ensures) (rest-is b)
 
 pub dagger-spec : {M : Type 1} → statement M
 dagger-spec =
@@ -84,7 +84,6 @@ dagger-spec =
     upper-digits-requires
     difference-requires
     upper-digits-requires-2
-    p-requires
     add-wrap
     sub-wrap
     wrap-requires

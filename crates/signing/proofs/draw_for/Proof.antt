@@ -8,9 +8,10 @@ use Rattle.laws.specs.Lists.{zipWith}
 use Rattle.laws.proofs.Entries.{length-zipWith}
 use Rattle.sets.specs.Numbers.{dimension, maskLimit}
 use Rattle.vectors.specs.Vectors.{squares, sizes}
-use Rattle.choices.specs.Choices.{pair, signed}
+use Rattle.vectors.specs.Pairs.{Pair, pair}
+use Rattle.choices.specs.Choices.{addedIf}
 use Rattle.draw.specs.Draw.{walkOf}
-use Rattle.signing.specs.Response.{firstTrial, secondTrial}
+use Rattle.signing.specs.Response.{Drawing, masked, firstTrial, secondTrial}
 use Rattle.signing.proofs.Given.{drawn-short, drawn-rejected, drawn-accepted, given-carried}
 use Rattle.signing.proofs.Numbers.{first-mask, second-mask, sum-fits, sizes-z, trial-fits}
 use borrow.Author.Needs.{needs}
@@ -36,11 +37,24 @@ module _ (s : tie.Start) where
   abbrev V2 : List ℤ
   V2 = s .args .v2 .now
 
+  abbrev Both : Pair
+  Both = pair V1 V2
+
+  abbrev D : Drawing
+  D = record {
+    a = s .args .a .now;
+    y = pair Y1 Y2;
+    sign = s .args .sign;
+    thresholds = s .args .thresholds .now;
+    words = s .args .words .now;
+    old = pair (s .args .z1 .now) (s .args .z2 .now);
+  }
+
   abbrev Z1 : List ℤ
-  Z1 = zipWith (signed (not (s .args .sign))) Y1 V1
+  Z1 = zipWith (addedIf (not (s .args .sign))) Y1 V1
 
   abbrev Z2 : List ℤ
-  Z2 = zipWith (signed (not (s .args .sign))) Y2 V2
+  Z2 = zipWith (addedIf (not (s .args .sign))) Y2 V2
 
   small1 : (k : ℕ) → natAbs (getD Y1 k (pos 0)) ≤ maskLimit
   small1 = first-mask Y1 Y2 (s .pre .1 .1 .0 .1)
@@ -56,10 +70,10 @@ module _ (s : tie.Start) where
       (s .pre .1 .1 .0 .2)
 
   long1 : length Z1 ≡ dimension
-  long1 = length-zipWith (signed (not (s .args .sign))) Y1 V1 (s .pre .1 .0 .0 ∙ sym (s .pre .0 .0)) ∙ s .pre .1 .0 .0
+  long1 = length-zipWith (addedIf (not (s .args .sign))) Y1 V1 (s .pre .1 .0 .0 ∙ sym (s .pre .0 .0)) ∙ s .pre .1 .0 .0
 
   long2 : length Z2 ≡ dimension
-  long2 = length-zipWith (signed (not (s .args .sign))) Y2 V2 (s .pre .1 .0 .1 ∙ sym (s .pre .0 .1)) ∙ s .pre .1 .0 .1
+  long2 = length-zipWith (addedIf (not (s .args .sign))) Y2 V2 (s .pre .1 .0 .1 ∙ sym (s .pre .0 .1)) ∙ s .pre .1 .0 .1
 
 mask-requires : tie.Need-mask-requires
 mask-requires c κs =
@@ -109,7 +123,8 @@ module _ (c : tie.After-walk) where
   abbrev S : tie.Start
   S = start f
 
-  walked : c .walk .result ≡ walkOf (firstTrial (S .args .s) (pair (V1 S) (V2 S))) (secondTrial (pair (Z1 S) (Z2 S)) (pair (V1 S) (V2 S))) (S .args .words .now) (S .args .thresholds .now)
+  walked : c .walk .result ≡ walkOf (firstTrial (S .args .s) (Both S)) (secondTrial (masked (D S .sign) (D S .y) (Both S)) (Both S)) (D S .words) (D S .thresholds)
+  unfolding masked
   walked =
       c .walk .ensures
       ∙ ap₂ (λ (m n : ℕ). walkOf m n (S .args .words .now) (S .args .thresholds .now)) (f .first-trial .ensures)
@@ -139,12 +154,12 @@ give-requires c κs =
 returns : tie.Need-returns
 returns c =
     let w = c .before .before in
-    drawn-short (S w .args .s) (S w .args .a .now) (pair (Y1 (S w)) (Y2 (S w))) (pair (Z1 (S w)) (Z2 (S w))) (pair (V1 (S w)) (V2 (S w))) (S w .args .thresholds .now) (S w .args .words .now) _ _ (w .walk .result) (walked w) (search needs)
+    drawn-short (S w .args .s) (D (S w)) (Both (S w)) (w .walk .result) (walked w) (search needs)
 
 returns-2 : tie.Need-returns-2
 returns-2 c =
     let w = c .before .before .before in
-    drawn-rejected (S w .args .s) (S w .args .a .now) (pair (Y1 (S w)) (Y2 (S w))) (pair (Z1 (S w)) (Z2 (S w))) (pair (V1 (S w)) (V2 (S w))) (S w .args .thresholds .now) (S w .args .words .now) _ _ (w .walk .result) (walked w) _ (search needs)
+    drawn-rejected (S w .args .s) (D (S w)) (Both (S w)) (w .walk .result) (walked w) _ (search needs)
 
 same-length : tie.Need-same-length
 same-length c = search needs
@@ -153,10 +168,11 @@ same-length-2 : tie.Need-same-length-2
 same-length-2 c = search needs
 
 returns-3 : tie.Need-returns-3
+unfolding masked
 returns-3 c =
     let w = c .before .before .before .before .before .before .before .before .before .before in
-    drawn-accepted (S w .args .s) (S w .args .a .now) (pair (Y1 (S w)) (Y2 (S w))) (pair (Z1 (S w)) (Z2 (S w))) (pair (V1 (S w)) (V2 (S w))) (S w .args .thresholds .now) (S w .args .words .now) _ _ (w .walk .result) (walked w) _ _ (search needs)
-    (given-carried (S w .args .s) (c .before .before .before .before .before .before .before .before .taken2 .given .0 .0) _ _ _ _ _ _ _ _ (c .before .before .give .ensures) (first-half (f w)) (second-half (f w)))
+    drawn-accepted (S w .args .s) (D (S w)) (Both (S w)) (w .walk .result) (walked w) _ _ (search needs)
+    (given-carried (S w .args .s) _ (c .before .before .before .before .before .before .before .before .taken2 .given .0 .0) _ _ _ _ _ _ (c .before .before .give .ensures) (first-half (f w)) (second-half (f w)))
 
 pub draw-for-spec : {M : Type 1} → statement M
 draw-for-spec =

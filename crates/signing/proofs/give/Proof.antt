@@ -1,6 +1,7 @@
 use mathlib.Core.Path.{_≡_, ap, _∙_}
 use mathlib.Core.List.{List}
 use lib.IntN.{ℤ}
+use Rattle.vectors.specs.Pairs.{pair}
 use Rattle.limits.specs.LengthRule.{lengthRule}
 use Rattle.commitment.specs.Commitment.{sums}
 use Rattle.commitment.proofs.Sums.{reduced-zip}
@@ -61,7 +62,7 @@ module _ (c : tie.After-length-rule) where
 returns : tie.Need-returns
 returns c =
     let l = c .before .before in
-    given-refused (start l .args .s) (start l .args .taken) (start l .args .w1 .now) (D l) _ _ (l .length-rule .result) _ (ruled l) (c .before .is-done .ensures) (c .if1 .taken)
+    given-refused (start l .args .s) _ (start l .args .taken) (pair (start l .args .w1 .now) (D l)) (l .length-rule .result) _ (ruled l) (c .before .is-done .ensures) (c .if1 .taken)
 
 copy-requires : tie.Need-copy-requires
 copy-requires c κs = search needs
@@ -82,7 +83,7 @@ returns-2 : tie.Need-returns-2
 returns-2 c =
     let b = c .before .before .before .before .before .before .before in
     let l = b .before .before in
-    given-out (start l .args .s) (start l .args .taken) (start l .args .w1 .now) (D l) _ _ (l .length-rule .result) _ (ruled l) (b .before .is-done .ensures) (b .if1 .left) _ _
+    given-out (start l .args .s) _ (start l .args .taken) (pair (start l .args .w1 .now) (D l)) (l .length-rule .result) _ (ruled l) (b .before .is-done .ensures) (b .if1 .left) _ _
     (c .before .before .before .before .before .copy .ensures) (c .before .copy-bytes .ensures ∙ rounded l)
 
 pub give-spec : {M : Type 1} → statement M

@@ -2,6 +2,7 @@ use mathlib.Core.Path.{_≡_, sym, ap, _∙_}
 use mathlib.Core.List.{List}
 use Prim.Native.Nat.{ℕ, _-_, _≤_}
 use native.Mathlib.Omega.{arith}
+use borrow.Author.Needs.{needs}
 use lib.Dec.{lit≤}
 use lib.IntN.{ℤ, pos}
 use lib.ListN.{length, getD}
@@ -18,10 +19,10 @@ use Rattle.signing.proofs.make_daggers.Statement.{statement}
 use Rattle.signing.proofs.make_daggers.Tie as tie
 
 abbrev Inv-loop : tie.InvT-loop
-Inv-loop s u z out₀ i₀ out i = (i ≤ dimension) × Rewritten out₀ (zipWith (dagger s) u z) i out
+Inv-loop s u z out₀ d p i₀ out i = (i ≤ dimension) × Rewritten out₀ (zipWith (dagger s) u z) i out
 
 abbrev μ-loop : tie.MeasureT-loop
-μ-loop s u z out₀ i₀ out i = dimension - i
+μ-loop s u z out₀ d p i₀ out i = dimension - i
 
 module _ (c : tie.Start Inv-loop μ-loop) where
   abbrev S : Set
@@ -39,9 +40,15 @@ module _ (c : tie.Start Inv-loop μ-loop) where
   long : length (zipWith (dagger S) U Z) ≡ length O
   long = omega (arith, length-zipWith (dagger S) U Z (omega arith))
 
+d-requires : tie.Need-d-requires Inv-loop μ-loop
+d-requires c κs = search needs
+
+p-requires : tie.Need-p-requires Inv-loop μ-loop
+p-requires c κs = search needs
+
 loop-holds : tie.Need-loop-holds Inv-loop μ-loop
 loop-holds c =
-    let s = c .before in
+    let s = c .before .before .before in
     (lit≤ tt, start (O s) (zipWith (dagger (S s)) (U s) (Z s)) (long s))
 
 mul-dagger : tie.Need-mul-dagger Inv-loop μ-loop
@@ -59,7 +66,7 @@ shared-slice-copy-out-dagger c = omega arith
 dagger-requires : tie.Need-dagger-requires Inv-loop μ-loop
 dagger-requires c κs =
     let l = c .before .before .before in
-    l .before .before .pre .3 (l .loop .i)
+    (l .before .before .d .ensures, l .before .p .ensures, l .before .before .before .before .pre .3 (l .loop .i))
 
 slice-set-from-out : tie.Need-slice-set-from-out Inv-loop μ-loop
 slice-set-from-out c = omega (arith, c .before .before .before .before .loop .inv .1 .long)
@@ -73,7 +80,7 @@ loop-less c = omega arith
 loop-again : tie.Need-loop-again Inv-loop μ-loop
 loop-again c =
     let l = c .before .before .before .before in
-    let s = l .before .before in
+    let s = l .before .before .before .before in
     let i = l .loop .i in (
       omega arith,
       more (O s) (zipWith (dagger (S s)) (U s) (Z s)) (long s) (l .loop .inv .1) (pos 0) _ (omega arith)
@@ -88,7 +95,7 @@ same-length c = c .before .loop .inv .1 .long
 returns : tie.Need-returns Inv-loop μ-loop
 unfolding daggers
 returns c =
-    let s = c .before .before .before in
+    let s = c .before .before .before .before .before in
     finish (O s) (zipWith (dagger (S s)) (U s) (Z s)) (long s) (c .before .loop .inv .1) (omega arith)
 
 pub make-daggers-spec : {M : Type 1} → statement M
@@ -97,6 +104,8 @@ make-daggers-spec =
     (tie.spec
     Inv-loop
     μ-loop
+    d-requires
+    p-requires
     loop-holds
     mul-dagger
     shared-slice-read-dagger

@@ -6,7 +6,7 @@ use borrow.Author.Needs.{needs}
 use lib.IntN.{ℤ, pos, natAbs}
 use lib.ListN.{length, getD}
 use Rattle.laws.specs.Lists.{zipWith}
-use Rattle.choices.specs.Choices.{signed}
+use Rattle.choices.specs.Choices.{addedIf}
 use Rattle.signing.proofs.mask.Statement.{statement}
 use Rattle.signing.proofs.mask.Tie as tie
 
@@ -16,7 +16,7 @@ carried : (x y v : List ℤ) → x ≡ y → ((k : ℕ) → natAbs (getD y k (po
 carried x y v e h = rw e h
 
 -- the operation that the sign bit picks
-picked : (bit b : Bool) (z x y v : List ℤ) → z ≡ zipWith (signed b) x v → x ≡ y → not bit ≡ b → z ≡ zipWith (signed (not bit)) y v
+picked : (bit b : Bool) (z x y v : List ℤ) → z ≡ zipWith (addedIf b) x v → x ≡ y → not bit ≡ b → z ≡ zipWith (addedIf (not bit)) y v
 picked bit b z x y v e f h = rw (h, ← f) e
 
 copy-requires : tie.Need-copy-requires

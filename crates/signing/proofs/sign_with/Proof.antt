@@ -7,16 +7,15 @@ use borrow.Author.Needs.{needs}
 use borrow.Author.Tests.{not-false}
 use lib.IntN.{ℤ}
 use Rattle.sets.specs.Numbers.{kappaOf, keyLimitOf}
-use Rattle.answers.specs.declared.Outcome.{Outcome}
 use Rattle.answers.specs.Outcomes.{isDone}
 use Rattle.answers.proofs.Calls.{refused, admitted}
 use Rattle.vectors.specs.Vectors.{squares}
 use Rattle.vectors.proofs.Rising.{proper-places}
 use Rattle.keys.specs.Key.{properKey}
-use Rattle.choices.specs.Choices.{pair}
+use Rattle.vectors.specs.Pairs.{pair}
 use Rattle.choices.proofs.Pairs.{Sized, Within}
-use Rattle.signing.specs.Response.{responded, signedWith}
-use Rattle.signing.proofs.Ways.{refusal-at, short-key, few-places, chosen-sized, chosen-short, chosen-within, drawn-at}
+use Rattle.signing.specs.Response.{leaving, drawn}
+use Rattle.signing.proofs.Ways.{refusal-at, short-key, few-places, chosen-sized, chosen-short, chosen-within}
 use Rattle.signing.proofs.sign_with.Statement.{statement}
 use Rattle.signing.proofs.sign_with.Tie as tie
 
@@ -39,11 +38,10 @@ refusal-requires : tie.Need-refusal-requires
 refusal-requires c κs = search needs
 
 returns : tie.Need-returns
-unfolding signedWith
 returns c =
     let t = c .before in
     let a = t .before .before .before .before .before .before .before .before .before .before .before .args in
-    refused _ _ _ (λ (o : Outcome). responded o 0 (a .z1 .now) (a .z2 .now)) _ _ (t .before .before .proper-key .ensures) (t .before .is-done .ensures) (t .if1 .taken)
+    refused _ _ _ (leaving (pair (a .z1 .now) (a .z2 .now)) 0) _ _ (t .before .before .proper-key .ensures) (t .before .is-done .ensures) (t .if1 .taken)
     (refusal-at _ _ _ _ _ (c .refusal .ensures .0) (c .refusal .ensures .1))
 
 slice-aggregate-choose : tie.Need-slice-aggregate-choose
@@ -135,14 +133,12 @@ same-length-2 : tie.Need-same-length-2
 same-length-2 c = search needs
 
 returns-2 : tie.Need-returns-2
-unfolding signedWith
 returns-2 c =
     let m = c .before .before .before .before .before .before .before .before .before .before in
     let t = key m in
     let a = start t .args in
-    admitted _ _ _ (λ (o : Outcome). responded o 0 (a .z1 .now) (a .z2 .now)) _ _ (t .before .before .proper-key .ensures) (t .before .is-done .ensures) (t .if1 .left)
-    (c .before .before .draw-for .ensures
-    ∙ drawn-at (a .s) (a .a .now) (a .y1 .now) (a .y2 .now) (a .sign) (v1 m) (v2 m) _ (a .thresholds .now) (a .words .now) (a .z1 .now) (a .z2 .now) (m .choose .ensures))
+    admitted _ _ _ (leaving (pair (a .z1 .now) (a .z2 .now)) 0) _ _ (t .before .before .proper-key .ensures) (t .before .is-done .ensures) (t .if1 .left)
+    (c .before .before .draw-for .ensures ∙ ap (drawn _ _) (m .choose .ensures))
 
 pub sign-with-spec : {M : Type 1} → statement M
 sign-with-spec =

@@ -1,4 +1,4 @@
-use mathlib.Core.Path.{_≡_, ap, ap₂, _∙_}
+use mathlib.Core.Path.{_≡_, refl, sym, ap, ap₂, _∙_}
 use mathlib.Core.Bool.{true}
 use mathlib.Core.List.{List}
 use Prim.Native.Nat.{ℕ}
@@ -9,12 +9,13 @@ use lib.ListN.{length}
 use Rattle.laws.specs.Lists.{every}
 use Rattle.laws.proofs.Chain.{stop, pass, passed}
 use Rattle.vectors.specs.Vectors.{within}
+use Rattle.vectors.specs.Pairs.{pair}
 use Rattle.vectors.proofs.Ranges.{within-wider}
 use Rattle.keys.specs.Key.{inRange, second}
 use Rattle.keys.proofs.Ranges.{f-small, g-small}
 use Rattle.keys.proofs.Second.{second-within, length-second}
-use Rattle.signing.specs.Response.{tested, signedWith}
-use Rattle.signing.proofs.Ways.{refusal-at}
+use Rattle.signing.specs.Response.{Lent, allSized, responseFor}
+use Rattle.signing.proofs.Ways.{refusal-at, are-sized, signedWith}
 use Rattle.signing.proofs.test.Statement.{statement}
 use Rattle.signing.proofs.test.Tie as tie
 
@@ -44,6 +45,24 @@ module _ (c : tie.After-in-range) where
   abbrev start : tie.Start
   start = c .before .before .before .before .before .before .before .before .before .before .before .before .before
 
+  abbrev lent : Lent
+  lent = record {
+    f = start .args .f .now;
+    g = start .args .g .now;
+    a = start .args .a .now;
+    y1 = start .args .y1 .now;
+    y2 = start .args .y2 .now;
+    list = start .args .list .now;
+    sign = start .args .sign;
+    thresholds = start .args .thresholds .now;
+    words = start .args .words .now;
+    z1 = start .args .z1 .now;
+    z2 = start .args .z2 .now;
+  }
+
+  are-long : true ≡ allSized lent
+  are-long = sym (are-sized lent (start .pre))
+
   abbrev f : List ℤ
   f = start .args .f .now
 
@@ -72,10 +91,11 @@ refusal-requires : tie.Need-refusal-requires
 refusal-requires c κs = search needs
 
 returns : tie.Need-returns
-unfolding tested
+unfolding responseFor
 returns c =
-    stop _ _ _ _ _ (ranged (c .before .before)) (c .before .if1 .taken)
-    (refusal-at _ _ _ _ _ (c .refusal .ensures .0) (c .refusal .ensures .1))
+    pass _ _ _ _ _ (are-long (c .before .before)) refl
+    (stop _ _ _ _ _ (ranged (c .before .before)) (c .before .if1 .taken)
+    (refusal-at _ _ _ _ _ (c .refusal .ensures .0) (c .refusal .ensures .1)))
 
 are-masks-requires : tie.Need-are-masks-requires
 are-masks-requires c κs = search needs
@@ -84,12 +104,13 @@ refusal-requires-2 : tie.Need-refusal-requires-2
 refusal-requires-2 c κs = search needs
 
 returns-2 : tie.Need-returns-2
-unfolding tested
+unfolding responseFor
 returns-2 c =
     let m = c .before .before in
-    pass _ _ _ _ _ (ranged (m .before .before)) (m .before .if1 .left)
+    pass _ _ _ _ _ (are-long (m .before .before)) refl
+    (pass _ _ _ _ _ (ranged (m .before .before)) (m .before .if1 .left)
     (stop _ _ _ _ _ (m .are-masks .ensures) (c .before .if2 .taken)
-    (refusal-at _ _ _ _ _ (c .refusal2 .ensures .0) (c .refusal2 .ensures .1)))
+    (refusal-at _ _ _ _ _ (c .refusal2 .ensures .0) (c .refusal2 .ensures .1))))
 
 is-proper-requires : tie.Need-is-proper-requires
 is-proper-requires c κs = search needs
@@ -98,14 +119,15 @@ refusal-requires-3 : tie.Need-refusal-requires-3
 refusal-requires-3 c κs = search needs
 
 returns-3 : tie.Need-returns-3
-unfolding tested
+unfolding responseFor
 returns-3 c =
     let l = c .before .before in
     let m = l .before .before in
-    pass _ _ _ _ _ (ranged (m .before .before)) (m .before .if1 .left)
+    pass _ _ _ _ _ (are-long (m .before .before)) refl
+    (pass _ _ _ _ _ (ranged (m .before .before)) (m .before .if1 .left)
     (pass _ _ _ _ _ (m .are-masks .ensures) (l .before .if2 .left)
     (stop _ _ _ _ _ (l .is-proper .ensures) (c .before .if3 .taken)
-    (refusal-at _ _ _ _ _ (c .refusal3 .ensures .0) (c .refusal3 .ensures .1))))
+    (refusal-at _ _ _ _ _ (c .refusal3 .ensures .0) (c .refusal3 .ensures .1)))))
 
 slice-aggregate-make-second : tie.Need-slice-aggregate-make-second
 slice-aggregate-make-second c = search needs
@@ -162,16 +184,15 @@ same-length-2 : tie.Need-same-length-2
 same-length-2 c = search needs
 
 returns-4 : tie.Need-returns-4
-unfolding tested
+unfolding responseFor
 returns-4 c =
     let m = c .before .before .before .before .before .before .before .before in
     let r = passed-tests m in
-    let b = start (at r) .args in
-    pass _ _ _ _ _ (ranged (at r)) (r .before .before .before .before .if1 .left)
+    pass _ _ _ _ _ (are-long (at r)) refl
+    (pass _ _ _ _ _ (ranged (at r)) (r .before .before .before .before .if1 .left)
     (pass _ _ _ _ _ (r .before .before .before .are-masks .ensures) (r .before .before .if2 .left)
     (pass _ _ _ _ _ (r .before .is-proper .ensures) (r .if3 .left)
-    (c .before .before .sign-with .ensures
-    ∙ ap₂ (λ (x y : List ℤ). signedWith (b .s) x y (b .a .now) (b .y1 .now) (b .y2 .now) (b .list .now) (b .sign) (b .thresholds .now) (b .words .now) (b .z1 .now) (b .z2 .now)) (is-f (at r)) (made m))))
+    (c .before .before .sign-with .ensures ∙ ap₂ (λ (x y : List ℤ). signedWith (start (at r) .args .s) (lent (at r)) (pair x y)) (is-f (at r)) (made m)))))
 
 pub test-spec : {M : Type 1} → statement M
 test-spec =

@@ -1,5 +1,7 @@
 use mathlib.Core.Path.{_≡_, _∙_, ap}
-use Prim.Native.Nat.{_-_, _≤_}
+use mathlib.Core.Bool.{_&&_}
+use mathlib.Core.Logic.{⊎-elim}
+use Prim.Native.Nat.{_-_, _<_, _≤_}
 use native.Mathlib.Omega.{arith}
 use borrow.Author.Needs.{needs}
 use borrow.Author.Tests.{le-leb, lt-leb}
@@ -7,17 +9,17 @@ use lib.IntN.{ℤ, pos, natAbs}
 use lib.ListN.{length, drop, getD}
 use mir.Syntax.{w16}
 use Rattle.laws.specs.Lists.{every}
-use Rattle.laws.proofs.Loops.{scan-stops, scan-passes, scan-ends}
+use Rattle.laws.proofs.Loops.{scan-fails, scan-passes, scan-ends}
 use Rattle.laws.proofs.Machine.{element}
 use Rattle.vectors.specs.Vectors.{within}
 use Rattle.vectors.proofs.all_within.Statement.{statement}
 use Rattle.vectors.proofs.all_within.Tie as tie
 
 abbrev Inv-loop : tie.InvT-loop
-Inv-loop x bound i₀ i = (i ≤ length x) × (every (within bound) x ≡ every (within bound) (drop i x))
+Inv-loop x bound all₀ i₀ all i = (i ≤ length x) × (every (within bound) x ≡ all && every (within bound) (drop i x))
 
 abbrev μ-loop : tie.MeasureT-loop
-μ-loop x bound i₀ i = length x - i
+μ-loop x bound all₀ i₀ all i = length x - i
 
 loop-holds : tie.Need-loop-holds Inv-loop μ-loop
 loop-holds c = search needs
@@ -41,12 +43,6 @@ module _ (c : tie.After-size Inv-loop μ-loop) where
   is-size : c .size .result ≡ natAbs entry
   is-size = c .size .ensures ∙ ap natAbs (element w16 entry (c .before .size-arg .given) .back)
 
-returns : tie.Need-returns Inv-loop μ-loop
-returns c =
-    let l = here (c .before) in
-    scan-stops (within (l .before .args .bound)) (pos 0) (l .before .args .x .now) (l .loop .i) (l .loop .inv .1) (omega arith)
-    (lt-leb (natAbs (entry (c .before))) _ (omega (arith, is-size (c .before))))
-
 add-i : tie.Need-add-i Inv-loop μ-loop
 add-i c = omega arith
 
@@ -55,16 +51,25 @@ loop-less c = omega arith
 
 loop-again : tie.Need-loop-again Inv-loop μ-loop
 loop-again c =
-    let l = here (c .before) in (
+    let at = c .before in
+    let l = here at in
+    let a = l .before .args in
+    let h : l .loop .i < length (a .x .now) = omega arith in (
       omega arith,
-      scan-passes (within (l .before .args .bound)) (pos 0) (l .before .args .x .now) (l .loop .i) (l .loop .inv .1) (omega arith)
-          (le-leb (natAbs (entry (c .before))) _ (omega (arith, is-size (c .before)))),
+      ⊎-elim
+          (λ w.
+          scan-fails (within (a .bound)) (pos 0) (a .x .now) (l .loop .i) (l .loop .all) (l .loop .inv .1) h
+          (lt-leb (natAbs (entry at)) _ (omega (arith, is-size at, w .0 .taken))) (w .1))
+          (λ w.
+          scan-passes (within (a .bound)) (pos 0) (a .x .now) (l .loop .i) (l .loop .all) (l .loop .inv .1) h
+          (le-leb (natAbs (entry at)) _ (omega (arith, is-size at, w .0 .left))) (w .1))
+          (c .if1 .came),
     )
 
-returns-2 : tie.Need-returns-2 Inv-loop μ-loop
-returns-2 c =
+returns : tie.Need-returns Inv-loop μ-loop
+returns c =
     let l = c .before in
-    scan-ends (within (l .before .args .bound)) (pos 0) (l .before .args .x .now) (l .loop .i) (l .loop .inv .1) (omega arith)
+    scan-ends (within (l .before .args .bound)) (pos 0) (l .before .args .x .now) (l .loop .i) (l .loop .all) (l .loop .inv .1) (omega arith)
 
 pub all-within-spec : {M : Type 1} → statement M
 all-within-spec =
@@ -76,8 +81,7 @@ all-within-spec =
     mul-size
     shared-slice-copy-out-size
     size-requires
-    returns
     add-i
     loop-less
     loop-again
-    returns-2)
+    returns)

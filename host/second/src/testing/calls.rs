@@ -1,10 +1,10 @@
-//! The ten calls over one kind of input and answer, for programs that run them all.
+//! The calls over one kind of input and answer, for programs that run them all.
 
 use crate::answers::number_and_place;
 use crate::parameters::{Set, LIST_BUFFER, N};
 use crate::record::total;
 use crate::{commitment, compare, key_test, read, rebuild, respond, write};
-use crate::{list_section, z1_section, z2_section};
+use crate::{kappa, list_section, record_bytes, z1_section, z2_section};
 
 #[derive(Clone, Copy, Debug, PartialEq, Eq, PartialOrd, Ord)]
 pub enum Call {
@@ -18,10 +18,12 @@ pub enum Call {
     Z1Section,
     Z2Section,
     ListSection,
+    Kappa,
+    RecordBytes,
 }
 
 impl Call {
-    pub const ALL: [Call; 10] = [
+    pub const ALL: [Call; 12] = [
         Call::KeyTest,
         Call::Commitment,
         Call::Respond,
@@ -32,6 +34,8 @@ impl Call {
         Call::Z1Section,
         Call::Z2Section,
         Call::ListSection,
+        Call::Kappa,
+        Call::RecordBytes,
     ];
 
     /// The calls on a record.
@@ -54,7 +58,14 @@ impl Call {
             Call::Z1Section => "z1 section",
             Call::Z2Section => "z2 section",
             Call::ListSection => "list section",
+            Call::Kappa => "kappa",
+            Call::RecordBytes => "record bytes",
         }
+    }
+
+    /// Whether it is one of paper 01's ten, which have a number.
+    pub fn has_number(self) -> bool {
+        !matches!(self, Call::Kappa | Call::RecordBytes)
     }
 
     /// The numbers that the call gives: 0, then its refusals in the paper's order.
@@ -68,6 +79,7 @@ impl Call {
             Call::Write => &[0, 1, 2, 5, 10, 11, 14],
             Call::Read => &[0, 2, 13, 5, 10, 11],
             Call::Z1Section | Call::Z2Section | Call::ListSection => &[0, 13],
+            Call::Kappa | Call::RecordBytes => &[0],
         }
     }
 }
@@ -135,6 +147,8 @@ pub struct Answered {
     pub set: u32,
     /// Start and length of a section in the lent record.
     pub part: (usize, usize),
+    /// The size that a set's number was asked for.
+    pub size: usize,
 }
 
 impl Answered {
@@ -142,6 +156,13 @@ impl Answered {
         Answered {
             number,
             place,
+            ..Answered::default()
+        }
+    }
+
+    pub fn of_size(size: usize) -> Answered {
+        Answered {
+            size,
             ..Answered::default()
         }
     }
@@ -195,6 +216,8 @@ pub fn run(call: Call, input: &Input, out: Outputs) -> Answered {
         Call::Z1Section => return section(&input.record, z1_section),
         Call::Z2Section => return section(&input.record, z2_section),
         Call::ListSection => return section(&input.record, list_section),
+        Call::Kappa => return Answered::of_size(kappa(*set) as usize),
+        Call::RecordBytes => return Answered::of_size(record_bytes(*set) as usize),
     };
     Answered::new(number_and_place(outcome))
 }

@@ -5,10 +5,10 @@ use Rattle.replay.proofs.entries.replay.Statement.{statement}
 use Rattle.replay.proofs.entries.replay.Tie as tie
 
 abbrev Inv-loop : tie.InvT-loop
-Inv-loop fd memory₀ counts₀ left₀ t5 memory counts left = (length memory ≡ 36864) × (length counts ≡ 176)
+Inv-loop fd memory₀ counts₀ said₀ left₀ t5 memory counts said left = (length memory ≡ 36864) × (length counts ≡ 176) × (length said ≡ 4)
 
 abbrev μ-loop : tie.MeasureT-loop
-μ-loop fd memory₀ counts₀ left₀ t5 memory counts left = left
+μ-loop fd memory₀ counts₀ said₀ left₀ t5 memory counts said left = left
 
 stated-requires : tie.Need-stated-requires Inv-loop μ-loop
 stated-requires c κs = search needs
@@ -21,6 +21,9 @@ slice-aggregate-entry c = search needs
 
 slice-aggregate-entry-2 : tie.Need-slice-aggregate-entry-2 Inv-loop μ-loop
 slice-aggregate-entry-2 c = search needs
+
+slice-aggregate-entry-3 : tie.Need-slice-aggregate-entry-3 Inv-loop μ-loop
+slice-aggregate-entry-3 c = search needs
 
 entry-requires : tie.Need-entry-requires Inv-loop μ-loop
 entry-requires c κs = search needs
@@ -43,6 +46,12 @@ loop-less c = search needs
 loop-again : tie.Need-loop-again Inv-loop μ-loop
 loop-again c = search needs
 
+slice-aggregate-checker : tie.Need-slice-aggregate-checker Inv-loop μ-loop
+slice-aggregate-checker c = search needs
+
+checker-requires : tie.Need-checker-requires Inv-loop μ-loop
+checker-requires c κs = search needs
+
 slice-aggregate-print : tie.Need-slice-aggregate-print Inv-loop μ-loop
 slice-aggregate-print c = search needs
 
@@ -62,6 +71,7 @@ replay-spec =
     loop-holds
     slice-aggregate-entry
     slice-aggregate-entry-2
+    slice-aggregate-entry-3
     entry-requires
     slice-aggregate-text
     text-requires
@@ -69,6 +79,8 @@ replay-spec =
     sub-left
     loop-less
     loop-again
+    slice-aggregate-checker
+    checker-requires
     slice-aggregate-print
     print-requires
     returns-2)

@@ -1,0 +1,44 @@
+-- The parameters of the calls when a call is over, by their names. What a contract admits speaks of them as one row, in the order of the parameters;
+-- here each has a type of its own, so that no other can stand in its place. Assumes nothing.
+
+-- commitment(set, a, y1, y2, out)
+module _ {set a y1 y2 out rest : Type 0} where
+  abbrev pub commitment-out : set × (a × (y1 × (y2 × (out × rest)))) → out
+  commitment-out lent = lent .1 .1 .1 .1 .0
+
+-- respond(set, f, g, a, y1, y2, list, sign, thresholds, words, z1, z2)
+module _ {set f g a y1 y2 list sign thresholds words z1 z2 rest : Type 0} where
+  abbrev pub response-z1 : set × (f × (g × (a × (y1 × (y2 × (list × (sign × (thresholds × (words × (z1 × (z2 × rest))))))))))) → z1
+  response-z1 lent = lent .1 .1 .1 .1 .1 .1 .1 .1 .1 .1 .0
+
+  abbrev pub response-z2 : set × (f × (g × (a × (y1 × (y2 × (list × (sign × (thresholds × (words × (z1 × (z2 × rest))))))))))) → z2
+  response-z2 lent = lent .1 .1 .1 .1 .1 .1 .1 .1 .1 .1 .1 .0
+
+-- rebuild(set, a, z1, z2, list, out)
+module _ {set a z1 z2 list out rest : Type 0} where
+  abbrev pub rebuild-out : set × (a × (z1 × (z2 × (list × (out × rest))))) → out
+  rebuild-out lent = lent .1 .1 .1 .1 .1 .0
+
+-- write(set, z1, z2, list, out)
+module _ {set z1 z2 list out rest : Type 0} where
+  abbrev pub write-out : set × (z1 × (z2 × (list × (out × rest)))) → out
+  write-out lent = lent .1 .1 .1 .1 .0
+
+-- read(rec, z1, z2, list)
+module _ {rec z1 z2 list rest : Type 0} where
+  abbrev pub read-z1 : rec × (z1 × (z2 × (list × rest))) → z1
+  read-z1 lent = lent .1 .0
+
+  abbrev pub read-z2 : rec × (z1 × (z2 × (list × rest))) → z2
+  read-z2 lent = lent .1 .1 .0
+
+  abbrev pub read-list : rec × (z1 × (z2 × (list × rest))) → list
+  read-list lent = lent .1 .1 .1 .0
+
+-- a section call(rec, number, place)
+module _ {rec number place rest : Type 0} where
+  abbrev pub section-number : rec × (number × (place × rest)) → number
+  section-number lent = lent .1 .0
+
+  abbrev pub section-place : rec × (number × (place × rest)) → place
+  section-place lent = lent .1 .1 .0

@@ -1,0 +1,25 @@
+use Rattle.answers.proofs.Calls.{calls}
+use borrow.Author.Needs.{needs}
+use Rattle.bursztok.proofs.bursztok_kappa.Statement.{statement}
+use Rattle.bursztok.proofs.bursztok_kappa.Tie as tie
+
+asked-requires : tie.Need-asked-requires
+asked-requires c κs = search needs
+
+enum-told : tie.Need-enum-told
+enum-told c = search needs
+
+enum-known-s : tie.Need-enum-known-s
+enum-known-s c = search needs
+
+kappa-of-requires : tie.Need-kappa-of-requires
+kappa-of-requires c κs = search needs
+
+returns : tie.Need-returns
+returns c = search calls
+
+returns-2 : tie.Need-returns-2
+returns-2 c = search calls
+
+pub bursztok-kappa-spec : {M : Type 1} → statement M
+bursztok-kappa-spec = tie.close (tie.spec asked-requires enum-told enum-known-s kappa-of-requires returns returns-2)

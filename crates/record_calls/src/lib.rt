@@ -1,0 +1,227 @@
+// The five calls on records, each printed as a line: what it is lent, the number and the place, the set that the reader answers, and a checksum of what the
+// output, the buffers or the section holds afterwards. The program records_run has the cases.
+ghost use mathlib.Core.Path.{_≡_};
+ghost use lib.ListN.{length};
+use answers::Outcome;
+use libc::STDOUT_FILENO;
+use sets::Asked;
+use sets::Set;
+
+// ---- what is lent
+
+// 1,700 times the same byte, more than any record has.
+pub fn bytes_of(b: u8) -> [u8; 1700]
+    ensures { λ r. ⌜ length r ≡ 1700 ⌝ }
+{
+    [b; 1700]
+}
+
+// 600 times the same number, more than any vector has.
+pub fn wide_of(x: i16) -> [i16; 600]
+    ensures { λ r. ⌜ length r ≡ 600 ⌝ }
+{
+    [x; 600]
+}
+
+pub fn narrow_of(x: i8) -> [i8; 600]
+    ensures { λ r. ⌜ length r ≡ 600 ⌝ }
+{
+    [x; 600]
+}
+
+fn places_of(x: u16) -> [u16; 50]
+    ensures { λ r. ⌜ length r ≡ 50 ⌝ }
+{
+    [x; 50]
+}
+
+// The first n places.
+pub fn first_places<'a>(list: &'a [u16], n: usize) -> &'a [u16] {
+    if n <= list.len() { &list[0..n] } else { list }
+}
+
+// The first n bytes.
+pub fn front<'a>(bytes: &'a [u8], n: usize) -> &'a [u8] {
+    if n <= bytes.len() {
+        &bytes[0..n]
+    } else {
+        bytes
+    }
+}
+
+// Of the set that a number stands for, and 0 where there is none.
+pub fn kappa_of(set: u32) -> usize {
+    match Set::asked(set) {
+        Asked::Unknown => 0,
+        Asked::Known(s) => s.kappa(),
+    }
+}
+
+pub fn total_of(set: u32) -> usize {
+    match Set::asked(set) {
+        Asked::Unknown => 0,
+        Asked::Known(s) => s.total(),
+    }
+}
+
+// ---- the calls
+
+// Writes to the front of 1,700 bytes of 165, of which `room` are lent; then reads as many of them as the set's total.
+pub fn writing(set: u32, z1: &[i16], z2: &[i8], list: &[u16], count: usize, room: usize) {
+    let mut space = bytes_of(165);
+    number(b"write: set ", set as u64);
+    number(b", z1 of ", z1.len() as u64);
+    number(b", z2 dagger of ", z2.len() as u64);
+    number(b", list of ", count as u64);
+    number(b", output of ", room as u64);
+    show(write_room(set, z1, z2, first_places(list, count), room, &mut space));
+    checked(set, &space);
+}
+
+fn checked(set: u32, space: &[u8]) {
+    number(b"; output sums to ", sum(space));
+    print(b"\n");
+    let rec = front(space, total_of(set));
+    reading(rec, 512, 512, 39);
+    sections(rec);
+}
+
+// To the first bytes of an output.
+fn write_room(
+    set: u32,
+    z1: &[i16],
+    z2: &[i8],
+    list: &[u16],
+    room: usize,
+    out: &mut [u8],
+) -> Outcome {
+    if room <= out.len() {
+        records::write(set, z1, z2, list, &mut out[0..room])
+    } else {
+        records::write(set, z1, z2, list, out)
+    }
+}
+
+// Reads into buffers of the lengths n1, n2, n3, which hold -1, -1 and 999.
+pub fn reading(rec: &[u8], n1: usize, n2: usize, n3: usize) {
+    let mut z1 = wide_of(-1);
+    let mut z2 = narrow_of(-1);
+    let mut list = places_of(999);
+    number(b"  read ", rec.len() as u64);
+    number(b" bytes, z1 of ", n1 as u64);
+    number(b", z2 dagger of ", n2 as u64);
+    number(b", list of ", n3 as u64);
+    read_to(rec, &mut z1, n1, &mut z2, n2, &mut list, n3);
+    number(b"; buffers sum to ", buffer_sum(&z1, &z2, &list));
+    print(b"\n");
+}
+
+fn read_to(
+    rec: &[u8],
+    z1: &mut [i16],
+    n1: usize,
+    z2: &mut [i8],
+    n2: usize,
+    list: &mut [u16],
+    n3: usize,
+) {
+    if n1 <= z1.len() {
+        if n2 <= z2.len() {
+            if n3 <= list.len() {
+                let r = records::read(rec, &mut z1[0..n1], &mut z2[0..n2], &mut list[0..n3]);
+                let o = r.outcome;
+                show(o);
+                let set = r.set;
+                number(b", set ", set as u64);
+            }
+        }
+    }
+}
+
+pub fn sections(rec: &[u8]) {
+    let mut n = 99;
+    let mut place = 99;
+    let z1 = records::z1_section(rec, &mut n, &mut place);
+    part(b"  z1 section", z1, n, place);
+    let z2 = records::z2_section(rec, &mut n, &mut place);
+    part(b"; z2 dagger section", z2, n, place);
+    let list = records::list_section(rec, &mut n, &mut place);
+    part(b"; list section", list, n, place);
+    print(b"\n");
+}
+
+pub fn part(text: &[u8], bytes: &[u8], n: u32, place: u32) {
+    print(text);
+    number(b" answers ", n as u64);
+    number(b" at ", place as u64);
+    number(b", bytes ", bytes.len() as u64);
+    number(b" sum to ", sum(bytes));
+}
+
+// ---- text and checksums
+
+pub fn print(text: &[u8]) {
+    io::write_all(STDOUT_FILENO, text);
+}
+
+pub fn number(text: &[u8], n: u64) {
+    print(text);
+    io::print_decimal(STDOUT_FILENO, n);
+}
+
+// A signed number, from its two's complement.
+pub fn signed16(text: &[u8], x: i16) {
+    let bits = byte_codes::bits16(x) as u64;
+    if bits < 32768 {
+        number(text, bits);
+    } else {
+        print(text);
+        number(b"-", 65536 - bits);
+    }
+}
+
+pub fn signed8(text: &[u8], x: i8) {
+    let bits = byte_codes::bits8(x) as u64;
+    if bits < 128 {
+        number(text, bits);
+    } else {
+        print(text);
+        number(b"-", 256 - bits);
+    }
+}
+
+fn show(o: Outcome) {
+    number(b": answers ", o.number() as u64);
+    number(b" at ", o.place() as u64);
+}
+
+fn sum(bytes: &[u8]) -> u64 {
+    let mut s: u64 = 7;
+    let mut i = 0;
+    while i < bytes.len() {
+        s = (s * 31 + (bytes[i] as u64)) % 1000003;
+        i += 1;
+    }
+    s
+}
+
+// Of the reader's three buffers together.
+fn buffer_sum(z1: &[i16], z2: &[i8], list: &[u16]) -> u64 {
+    let mut bytes = [0u8; 1900];
+    pack(z1, z2, list, &mut bytes);
+    sum(&bytes)
+}
+
+fn pack(z1: &[i16], z2: &[i8], list: &[u16], out: &mut [u8]) {
+    if out.len() == 1900 {
+        if z1.len() == 600 {
+            if z2.len() == 600 {
+                if list.len() == 50 {
+                    byte_codes::pack_wide(z1, &mut out[0..1200]);
+                    byte_codes::pack_narrow(z2, &mut out[1200..1800]);
+                    byte_codes::pack_places(list, &mut out[1800..1900]);
+                }
+            }
+        }
+    }
+}

@@ -1,0 +1,57 @@
+//! Right inputs at random.
+
+use second::parameters::THRESHOLDS;
+use second::record::total;
+use second::testing::boundary::signature_of_sum;
+use second::testing::calls::{Input, OutputLengths};
+use second::testing::keys::Key;
+use second::testing::noise::Noise;
+use second::Set;
+
+/// More words than any walk takes whose trials all succeed: two trials of at most 31 places.
+const PASSING_WORDS: usize = 62;
+
+/// An input on which every call is done.
+pub fn right_input(number: u32, key: &Key, noise: &mut Noise) -> Input {
+    let set = Set::asked(number).expect("a set to start from");
+    let list = noise.list(set);
+    // Masks below sigma / 4 stay within the length rule for any key.
+    let deviation = set.sigma() as f64 / 4.0;
+    let mut input = Input {
+        set: number,
+        f: key.f.clone(),
+        g: key.g.clone(),
+        a: key.a.clone(),
+        y1: noise.mask_of_deviation(deviation),
+        y2: noise.mask_of_deviation(deviation),
+        hashed: list.clone(),
+        list,
+        sign: noise.bit(),
+        thresholds: vec![u64::MAX; THRESHOLDS],
+        words: noise.words(PASSING_WORDS),
+        z1: Vec::new(),
+        z2_dagger: Vec::new(),
+        record: Vec::new(),
+        lengths: OutputLengths::stated(set),
+    };
+    let sum = match noise.below(4) {
+        0 => set.b2_squared(),
+        _ => noise.between(0, set.b2_squared()),
+    };
+    sign_with_sum(&mut input, set, sum, noise);
+    input
+}
+
+/// Puts a signature of this sum, and the record of it.
+fn sign_with_sum(input: &mut Input, set: Set, sum: i64, noise: &mut Noise) {
+    (input.z1, input.z2_dagger) = signature_of_sum(set, sum, noise);
+    input.record = vec![0; total(set)];
+    let outcome = second::write(
+        input.set,
+        &input.z1,
+        &input.z2_dagger,
+        &input.list,
+        &mut input.record,
+    );
+    outcome.expect("the signature is within the limits");
+}

@@ -1,0 +1,155 @@
+//! The faults that are planted, and the one that is in the library now.
+
+use second::testing::calls::Call::{self, *};
+use std::cell::Cell;
+use std::fmt;
+
+/// One fault of one call.
+#[derive(Clone, Copy, Debug, PartialEq, Eq)]
+pub struct Planted {
+    pub call: Call,
+    pub wrong: Wrong,
+}
+
+#[derive(Clone, Copy, Debug, PartialEq, Eq)]
+pub enum Wrong {
+    /// A refusal with this number is told as done.
+    Missed(u32),
+    /// A place is off by one.
+    Place,
+    /// The count of words is off by one, beside this number.
+    Words(u32),
+    /// The reader's set is off by one.
+    Set,
+    /// A part's start is off by one.
+    Start,
+    /// A part's length is off by one.
+    Length,
+    /// A set's size is off by one.
+    Size,
+    /// A number that is no set has a size.
+    NoSet,
+    /// 0 is no set.
+    Default,
+    /// One entry of what is written is off by one.
+    Entry(Buffer),
+    /// One entry is written on a refusal.
+    Refused(Buffer),
+    /// One entry that has to keep its contents is written: after the record, after the list.
+    Tail(Buffer),
+    /// The entry before the buffer is written.
+    Before(Buffer),
+}
+
+#[derive(Clone, Copy, Debug, PartialEq, Eq)]
+pub enum Buffer {
+    Rounded,
+    Z1,
+    Z2,
+    List,
+    Record,
+}
+
+use Buffer::{List, Record, Rounded, Z1, Z2};
+
+impl Planted {
+    pub fn name(&self) -> String {
+        format!("{}: {}", self.call.name(), self.wrong)
+    }
+}
+
+impl fmt::Display for Wrong {
+    fn fmt(&self, out: &mut fmt::Formatter<'_>) -> fmt::Result {
+        match self {
+            Wrong::Missed(number) => write!(out, "refusal {number} told as done"),
+            Wrong::Place => write!(out, "place off by one"),
+            Wrong::Words(number) => write!(out, "count of words off by one with {number}"),
+            Wrong::Set => write!(out, "set off by one"),
+            Wrong::Start => write!(out, "start of the part off by one"),
+            Wrong::Length => write!(out, "length of the part off by one"),
+            Wrong::Size => write!(out, "off by one"),
+            Wrong::NoSet => write!(out, "told for a number that is no set"),
+            Wrong::Default => write!(out, "not told for 0"),
+            Wrong::Entry(buffer) => write!(out, "an entry of {buffer} off"),
+            Wrong::Refused(buffer) => write!(out, "an entry of {buffer} written on a refusal"),
+            Wrong::Tail(buffer) => write!(out, "the tail of {buffer} written"),
+            Wrong::Before(buffer) => write!(out, "the entry before {buffer} written"),
+        }
+    }
+}
+
+impl fmt::Display for Buffer {
+    fn fmt(&self, out: &mut fmt::Formatter<'_>) -> fmt::Result {
+        out.write_str(match self {
+            Rounded => "the rounded vector",
+            Z1 => "z1",
+            Z2 => "z2 dagger",
+            List => "the list",
+            Record => "the record",
+        })
+    }
+}
+
+/// The buffers that a call writes.
+fn written(call: Call) -> &'static [Buffer] {
+    match call {
+        Commitment | Rebuild => &[Rounded],
+        Respond => &[Z1, Z2],
+        Write => &[Record],
+        Read => &[Z1, Z2, List],
+        _ => &[],
+    }
+}
+
+/// What can be wrong with a call.
+fn wrongs(call: Call) -> Vec<Wrong> {
+    if !call.has_number() {
+        return vec![Wrong::Size, Wrong::NoSet, Wrong::Default];
+    }
+    let mut wrongs = Vec::new();
+    for &number in call.numbers() {
+        if number != 0 {
+            wrongs.push(Wrong::Missed(number));
+        }
+    }
+    wrongs.push(Wrong::Place);
+    match call {
+        Respond => wrongs.extend([0, 8, 9, 10, 11].map(Wrong::Words)),
+        Read => wrongs.extend([Wrong::Set, Wrong::Tail(List)]),
+        Write => wrongs.push(Wrong::Tail(Record)),
+        Z1Section | Z2Section | ListSection => wrongs.extend([Wrong::Start, Wrong::Length]),
+        _ => {}
+    }
+    for &buffer in written(call) {
+        wrongs.push(Wrong::Entry(buffer));
+        wrongs.push(Wrong::Refused(buffer));
+        wrongs.push(Wrong::Before(buffer));
+    }
+    wrongs
+}
+
+/// All faults, by call.
+pub fn all() -> Vec<Planted> {
+    let of = |call| {
+        wrongs(call)
+            .into_iter()
+            .map(move |wrong| Planted { call, wrong })
+    };
+    Call::ALL.into_iter().flat_map(of).collect()
+}
+
+thread_local! {
+    static NOW: Cell<Option<Planted>> = const { Cell::new(None) };
+}
+
+/// Puts a fault into the library, or takes it out again.
+pub fn plant(fault: Option<Planted>) {
+    NOW.set(fault);
+}
+
+/// What is wrong with the call now.
+#[cfg(target_arch = "x86_64")]
+pub fn wrong_with(call: Call) -> Option<Wrong> {
+    let fault = NOW.get()?;
+    (fault.call == call).then_some(fault.wrong)
+}

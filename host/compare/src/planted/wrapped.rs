@@ -1,0 +1,264 @@
+//! The calls of the C library with the planted fault. `build.rs` has the linker send every call
+//! here.
+
+use crate::faults::{wrong_with, Buffer, Wrong};
+use bursztok::foreign::{Answer, Part, Reading, Response};
+use second::testing::calls::Call;
+
+/// A number with a lowest digit that can be turned.
+trait Digit: Copy {
+    fn turned(self) -> Self;
+}
+
+macro_rules! digit {
+    ($($type:ty),*) => {
+        $(impl Digit for $type {
+            fn turned(self) -> Self {
+                self ^ 1
+            }
+        })*
+    };
+}
+digit!(i8, u8, i16, u16);
+
+/// What the call answered, before anything is made wrong.
+#[derive(Clone, Copy)]
+struct Answered {
+    wrong: Option<Wrong>,
+    number: u32,
+    call: Call,
+}
+
+impl Answered {
+    fn new(call: Call, number: u32) -> Answered {
+        Answered {
+            wrong: wrong_with(call),
+            number,
+            call,
+        }
+    }
+
+    fn is(self, wrong: Wrong) -> bool {
+        self.wrong == Some(wrong)
+    }
+
+    fn spoil_answer(self, number: &mut u32, place: &mut u32) {
+        let placed = |number| [10, 13].contains(&number);
+        let has_places = self.call.numbers().iter().any(|&number| placed(number));
+        if self.is(Wrong::Missed(self.number)) {
+            (*number, *place) = (0, 0);
+        }
+        if self.is(Wrong::Place) && (placed(self.number) || !has_places && self.number != 0) {
+            *place += 1;
+        }
+    }
+
+    /// # Safety
+    /// `at` is good for `length` entries and for one before them.
+    unsafe fn spoil_buffer<T: Digit>(self, buffer: Buffer, at: *mut T, length: usize) {
+        let done = self.number == 0;
+        let place = match self.wrong {
+            Some(Wrong::Entry(wrong)) if wrong == buffer && done => 0,
+            Some(Wrong::Refused(wrong)) if wrong == buffer && !done && length > 0 => 0,
+            Some(Wrong::Before(wrong)) if wrong == buffer && done => -1,
+            Some(Wrong::Tail(wrong)) if wrong == buffer && done && has_tail(buffer, length) => {
+                length as isize - 1
+            }
+            _ => return,
+        };
+        unsafe {
+            let entry = at.offset(place);
+            *entry = (*entry).turned();
+        }
+    }
+}
+
+/// Whether a buffer of this length keeps a tail, whatever the set.
+fn has_tail(buffer: Buffer, length: usize) -> bool {
+    buffer == Buffer::List || length > bursztok::RECORD
+}
+
+macro_rules! wrapped {
+    (
+        $call:ident, $wrap:ident, $real:ident,
+        ($($name:ident: $type:ty),* $(,)?) -> $answer:ty,
+        |$found:ident, $answered:ident| $spoil:expr
+    ) => {
+        extern "C" {
+            fn $real($($name: $type),*) -> $answer;
+        }
+
+        /// # Safety
+        /// As the call itself; and a buffer that it writes has an entry before it.
+        #[no_mangle]
+        #[allow(clippy::too_many_arguments)]
+        pub unsafe extern "C" fn $wrap($($name: $type),*) -> $answer {
+            let mut $found = unsafe { $real($($name),*) };
+            let $answered = Answered::new(Call::$call, $found.number);
+            $answered.spoil_answer(&mut $found.number, &mut $found.place);
+            #[allow(unused_unsafe)]
+            unsafe { $spoil }
+            $found
+        }
+    };
+}
+
+wrapped!(
+    KeyTest, __wrap_bursztok_key_test, __real_bursztok_key_test,
+    (set: u32, f: *const i8, f_len: usize, g: *const i8, g_len: usize, a: *const u16, a_len: usize) -> Answer,
+    |found, answered| {}
+);
+
+wrapped!(
+    Commitment, __wrap_bursztok_commitment, __real_bursztok_commitment,
+    (
+        set: u32, a: *const u16, a_len: usize, y1: *const i16, y1_len: usize, y2: *const i16,
+        y2_len: usize, out: *mut u16, out_len: usize,
+    ) -> Answer,
+    |found, answered| answered.spoil_buffer(Buffer::Rounded, out, out_len)
+);
+
+wrapped!(
+    Respond, __wrap_bursztok_respond, __real_bursztok_respond,
+    (
+        set: u32, f: *const i8, f_len: usize, g: *const i8, g_len: usize, a: *const u16,
+        a_len: usize, y1: *const i16, y1_len: usize, y2: *const i16, y2_len: usize,
+        list: *const u16, list_len: usize, sign: bool, thresholds: *const u64,
+        thresholds_len: usize, words: *const u64, words_len: usize, z1: *mut i16, z1_len: usize,
+        z2: *mut i8, z2_len: usize,
+    ) -> Response,
+    |found, answered| {
+        if answered.is(Wrong::Words(answered.number)) {
+            found.words += 1;
+        }
+        answered.spoil_buffer(Buffer::Z1, z1, z1_len);
+        answered.spoil_buffer(Buffer::Z2, z2, z2_len);
+    }
+);
+
+wrapped!(
+    Rebuild, __wrap_bursztok_rebuild, __real_bursztok_rebuild,
+    (
+        set: u32, a: *const u16, a_len: usize, z1: *const i16, z1_len: usize, z2: *const i8,
+        z2_len: usize, list: *const u16, list_len: usize, out: *mut u16, out_len: usize,
+    ) -> Answer,
+    |found, answered| answered.spoil_buffer(Buffer::Rounded, out, out_len)
+);
+
+wrapped!(
+    Compare, __wrap_bursztok_compare, __real_bursztok_compare,
+    (set: u32, claimed: *const u16, claimed_len: usize, hashed: *const u16, hashed_len: usize) -> Answer,
+    |found, answered| {}
+);
+
+wrapped!(
+    Write, __wrap_bursztok_write, __real_bursztok_write,
+    (
+        set: u32, z1: *const i16, z1_len: usize, z2: *const i8, z2_len: usize, list: *const u16,
+        list_len: usize, out: *mut u8, out_len: usize,
+    ) -> Answer,
+    |found, answered| answered.spoil_buffer(Buffer::Record, out, out_len)
+);
+
+wrapped!(
+    Read, __wrap_bursztok_read, __real_bursztok_read,
+    (
+        record: *const u8, record_len: usize, z1: *mut i16, z1_len: usize, z2: *mut i8,
+        z2_len: usize, list: *mut u16, list_len: usize,
+    ) -> Reading,
+    |found, answered| {
+        if answered.is(Wrong::Set) && answered.number == 0 {
+            found.set += 1;
+        }
+        answered.spoil_buffer(Buffer::Z1, z1, z1_len);
+        answered.spoil_buffer(Buffer::Z2, z2, z2_len);
+        answered.spoil_buffer(Buffer::List, list, list_len);
+    }
+);
+
+/// A section call.
+type Section = unsafe extern "C" fn(*const u8, usize, *mut u32, *mut u32) -> Part;
+
+unsafe fn section(
+    call: Call,
+    real: Section,
+    record: *const u8,
+    record_len: usize,
+    number: *mut u32,
+    place: *mut u32,
+) -> Part {
+    let mut part = unsafe { real(record, record_len, number, place) };
+    let (number, place) = unsafe { (&mut *number, &mut *place) };
+    let answered = Answered::new(call, *number);
+    answered.spoil_answer(number, place);
+    if answered.number == 0 {
+        // The part stays within the record.
+        part.start -= u64::from(answered.is(Wrong::Start));
+        part.length -= u64::from(answered.is(Wrong::Length));
+    }
+    part
+}
+
+macro_rules! wrapped_section {
+    ($call:ident, $wrap:ident, $real:ident) => {
+        extern "C" {
+            fn $real(record: *const u8, length: usize, number: *mut u32, place: *mut u32) -> Part;
+        }
+
+        /// # Safety
+        /// As the call itself.
+        #[no_mangle]
+        pub unsafe extern "C" fn $wrap(
+            record: *const u8,
+            length: usize,
+            number: *mut u32,
+            place: *mut u32,
+        ) -> Part {
+            unsafe { section(Call::$call, $real, record, length, number, place) }
+        }
+    };
+}
+
+wrapped_section!(
+    Z1Section,
+    __wrap_bursztok_z1_section,
+    __real_bursztok_z1_section
+);
+wrapped_section!(
+    Z2Section,
+    __wrap_bursztok_z2_section,
+    __real_bursztok_z2_section
+);
+wrapped_section!(
+    ListSection,
+    __wrap_bursztok_list_section,
+    __real_bursztok_list_section
+);
+
+macro_rules! wrapped_size {
+    ($call:ident, $wrap:ident, $real:ident) => {
+        extern "C" {
+            fn $real(set: u32) -> u32;
+        }
+
+        /// # Safety
+        /// None is needed: no pointer is passed.
+        #[no_mangle]
+        pub unsafe extern "C" fn $wrap(set: u32) -> u32 {
+            let size = unsafe { $real(set) };
+            match wrong_with(Call::$call) {
+                Some(Wrong::Size) if size != 0 => size + 1,
+                Some(Wrong::NoSet) if size == 0 => 1,
+                Some(Wrong::Default) if set == 0 => 0,
+                _ => size,
+            }
+        }
+    };
+}
+
+wrapped_size!(Kappa, __wrap_bursztok_kappa, __real_bursztok_kappa);
+wrapped_size!(
+    RecordBytes,
+    __wrap_bursztok_record_bytes,
+    __real_bursztok_record_bytes
+);

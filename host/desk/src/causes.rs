@@ -1,0 +1,232 @@
+//! Which file a call refused, and why, as far as its number and place tell it. The verdict is the
+//! library's; what is said here only points at what it judged.
+
+use crate::failure::Refused;
+use crate::header::wrong_field;
+use crate::lent::Vector;
+use crate::record::Record;
+use bursztok::Refusal;
+use std::ops::RangeInclusive;
+
+/// Adds the causes of a refusal that the lent vectors show.
+pub fn explain(refused: &mut Refused, set: u32, vectors: &[Vector]) {
+    refused.set = set;
+    let named = |names: &[&str]| -> Vec<&Vector> {
+        let mut found = Vec::new();
+        for name in names {
+            found.extend(vectors.iter().filter(|vector| vector.name == *name));
+        }
+        found
+    };
+    let sources = |names: &[&str]| -> String {
+        let sources: Vec<&str> = named(names).iter().map(|v| v.source.as_str()).collect();
+        sources.join(", ")
+    };
+    let causes = &mut refused.causes;
+    match refused.refusal {
+        Refusal::SetAboveFour => {
+            causes.push(format!(
+                "set {set}: sets are 1 to 4, and 0 stands for set 1"
+            ));
+        }
+        Refusal::Length => causes.extend(vectors.iter().filter_map(wrong_count)),
+        Refusal::Coefficient => {
+            causes.extend(outside(&named(&["f", "g"]), -2..=2));
+            causes.extend(outside(&named(&["a"]), 0..=12288));
+        }
+        Refusal::Mask => causes.extend(outside(&named(&["y1", "y2"]), -4096..=4096)),
+        Refusal::List => {
+            let lists = named(&["list", "hashed"]);
+            causes.extend(lists.iter().filter_map(|list| list_fault(list, set)));
+        }
+        Refusal::Relation => {
+            let (a, secret) = (sources(&["a"]), sources(&["f", "g"]));
+            causes.push(format!("{a} is not the public key of {secret}"));
+        }
+        Refusal::KeyLength => {
+            let length: i128 = named(&["f", "g"]).iter().map(|v| squares(v)).sum();
+            let secret = sources(&["f", "g"]);
+            causes.push(format!("{secret}: the squared length is {length}"));
+        }
+        Refusal::Words => {
+            for words in named(&["words"]) {
+                let count = words.numbers.len();
+                causes.push(format!("{} holds {count} words", words.source));
+            }
+        }
+        Refusal::Entry { place } => {
+            let (name, place) = match place {
+                0..512 => ("z1", place),
+                _ => ("z2", place - 512),
+            };
+            for vector in named(&[name]) {
+                let entry = vector.numbers.get(place as usize);
+                let entry = entry.map_or(String::new(), |entry| format!(" is {entry}"));
+                causes.push(format!("{}: place {place}{entry}", vector.source));
+            }
+        }
+        Refusal::Sum => {
+            let sources = sources(&["z1", "z2"]);
+            if !sources.is_empty() {
+                causes.push(format!("{sources}: too long together"));
+            }
+        }
+        Refusal::ListsDiffer => {
+            if let [list, hashed] = named(&["list", "hashed"])[..] {
+                causes.extend(difference(list, hashed));
+            }
+        }
+        _ => {}
+    }
+}
+
+/// The cause of refusal 13.
+pub fn explain_header(refused: &mut Refused, record: &Record) {
+    if matches!(refused.refusal, Refusal::Header { .. }) {
+        let what = wrong_field(record, refused.refusal.place());
+        refused.causes.push(format!("{}: {what}", record.source));
+    }
+}
+
+fn wrong_count(vector: &Vector) -> Option<String> {
+    let (count, expected) = (vector.numbers.len(), vector.expected?);
+    let ending = if count == 1 { "" } else { "s" };
+    let source = &vector.source;
+    (count != expected)
+        .then(|| format!("{source} holds {count} number{ending}, {expected} expected"))
+}
+
+/// The first number of each vector that lies outside.
+fn outside(vectors: &[&Vector], range: RangeInclusive<i128>) -> Vec<String> {
+    let (least, most) = (range.start(), range.end());
+    let fault = |vector: &&Vector| {
+        let mut numbered = vector.numbers.iter().enumerate();
+        let (place, number) = numbered.find(|(_, number)| !range.contains(number))?;
+        let source = &vector.source;
+        Some(format!(
+            "{source}: place {place} is {number}, {least} to {most} expected"
+        ))
+    };
+    vectors.iter().filter_map(fault).collect()
+}
+
+/// How a list is not of the stated form.
+fn list_fault(list: &Vector, set: u32) -> Option<String> {
+    let (source, numbers) = (&list.source, &list.numbers);
+    let kappa = bursztok::kappa(set);
+    if numbers.len() != kappa {
+        let count = numbers.len();
+        return Some(format!(
+            "{source}: a list of {count} places, set {set} has {kappa}"
+        ));
+    }
+    for (at, number) in numbers.iter().enumerate() {
+        if !(0..512).contains(number) {
+            return Some(format!(
+                "{source}: entry {at} of the list is {number}, 0 to 511 expected"
+            ));
+        }
+        if at > 0 && numbers[at - 1] >= *number {
+            let before = numbers[at - 1];
+            return Some(format!(
+                "{source}: entry {at} of the list is {number}, after {before}; it has to rise"
+            ));
+        }
+    }
+    None
+}
+
+fn difference(list: &Vector, hashed: &Vector) -> Option<String> {
+    let mut pairs = list.numbers.iter().zip(&hashed.numbers).enumerate();
+    let (at, (claimed, found)) = pairs.find(|(_, (claimed, found))| claimed != found)?;
+    Some(format!(
+        "the list in {} and {} differ: entry {at} is {claimed} and {found}",
+        list.source, hashed.source
+    ))
+}
+
+/// The squares of f, or of 2g + 1.
+fn squares(vector: &Vector) -> i128 {
+    let doubled = vector.name == "g";
+    let numbered = vector.numbers.iter().enumerate();
+    let entry = |(place, number): (usize, &i128)| match doubled {
+        true => 2 * number + i128::from(place == 0),
+        false => *number,
+    };
+    numbered.map(entry).map(|entry| entry * entry).sum()
+}
+
+#[cfg(test)]
+mod tests {
+    use super::explain;
+    use crate::failure::Refused;
+    use crate::lent::Lent;
+    use bursztok::Refusal;
+
+    fn causes(number: u32, place: u32, lent: &Lent) -> Vec<String> {
+        let mut refused = Refused {
+            call: "test",
+            refusal: Refusal::outcome(number, place).unwrap_err(),
+            set: 0,
+            words: None,
+            causes: Vec::new(),
+        };
+        explain(&mut refused, 1, &lent.vectors);
+        assert_eq!(refused.set, 1);
+        refused.causes
+    }
+
+    fn lent(name: &'static str, numbers: &[i16]) -> Lent {
+        let mut lent = Lent::default();
+        lent.add(name, format!("{name}.txt"), numbers, Some(512));
+        lent
+    }
+
+    #[test]
+    fn the_file_and_the_place_are_named() {
+        let short = causes(2, 0, &lent("g", &[0; 511]));
+        assert_eq!(short, ["g.txt holds 511 numbers, 512 expected"]);
+        assert!(causes(2, 0, &lent("g", &[0; 512])).is_empty());
+        let wide = causes(3, 0, &lent("g", &[2, -2, 3]));
+        assert_eq!(wide, ["g.txt: place 2 is 3, -2 to 2 expected"]);
+        let large = causes(3, 0, &lent("a", &[12288, 12289]));
+        assert_eq!(large, ["a.txt: place 1 is 12289, 0 to 12288 expected"]);
+        let mask = causes(4, 0, &lent("y2", &[-4097]));
+        assert_eq!(mask, ["y2.txt: place 0 is -4097, -4096 to 4096 expected"]);
+        assert_eq!(
+            causes(7, 0, &lent("g", &[1, -1])),
+            ["g.txt: the squared length is 13"]
+        );
+        assert_eq!(
+            causes(9, 0, &lent("words", &[])),
+            ["words.txt holds 0 words"]
+        );
+        assert_eq!(
+            causes(10, 1, &lent("z1", &[0, 2101])),
+            ["z1.txt: place 1 is 2101"]
+        );
+        assert_eq!(causes(10, 512, &lent("z2", &[3])), ["z2.txt: place 0 is 3"]);
+        assert!(causes(10, 512, &lent("z1", &[3])).is_empty());
+    }
+
+    #[test]
+    fn the_list_at_fault_is_named() {
+        let mut places: Vec<i16> = (0..23).collect();
+        let mut lent = lent("list", &places);
+        lent.add("hashed", "hashed.txt".to_string(), &places[..22], None);
+        let count = "hashed.txt: a list of 22 places, set 1 has 23";
+        assert_eq!(causes(5, 0, &lent), [count]);
+        places[22] = 512;
+        lent.vectors.pop();
+        lent.add("hashed", "hashed.txt".to_string(), &places, None);
+        let large = "hashed.txt: entry 22 of the list is 512, 0 to 511 expected";
+        assert_eq!(causes(5, 0, &lent), [large]);
+        places[22] = 21;
+        lent.vectors.pop();
+        lent.add("hashed", "hashed.txt".to_string(), &places, None);
+        let falls = "hashed.txt: entry 22 of the list is 21, after 21; it has to rise";
+        assert_eq!(causes(5, 0, &lent), [falls]);
+        let differ = "the list in list.txt and hashed.txt differ: entry 22 is 22 and 21";
+        assert_eq!(causes(12, 0, &lent), [differ]);
+    }
+}

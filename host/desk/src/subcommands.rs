@@ -1,0 +1,129 @@
+//! The subcommands, with what each takes.
+
+use crate::answer::Done;
+use crate::arguments::Arguments;
+use crate::failure::Failure;
+use crate::{checker, completion, demo, help, inspect, records, signer};
+use shell::options::Form;
+use std::process::ExitCode;
+
+pub struct Subcommand {
+    pub name: &'static str,
+    pub values: &'static [&'static str],
+    pub flags: &'static [&'static str],
+    pub words: &'static [&'static str],
+    pub help: &'static str,
+    pub run: Run,
+}
+
+pub enum Run {
+    /// Gives one answer, as text or as JSON.
+    Answers(fn(&Arguments) -> Result<Done, Failure>),
+    /// Says all that there is to say itself.
+    Tells(fn(&Arguments) -> Result<ExitCode, Failure>),
+}
+
+impl Subcommand {
+    pub fn form(&self) -> Form<'static> {
+        Form {
+            name: self.name,
+            values: self.values,
+            flags: self.flags,
+            words: self.words,
+        }
+    }
+}
+
+/// A subcommand with one answer.
+const fn answers(
+    name: &'static str,
+    values: &'static [&'static str],
+    help: &'static str,
+    run: fn(&Arguments) -> Result<Done, Failure>,
+) -> Subcommand {
+    Subcommand {
+        name,
+        values,
+        flags: &["json"],
+        words: &[],
+        help,
+        run: Run::Answers(run),
+    }
+}
+
+pub const SUBCOMMANDS: &[Subcommand] = &[
+    Subcommand {
+        name: "demo",
+        values: &["set", "seed", "sheets", "folder"],
+        flags: &[],
+        words: &[],
+        help: help::DEMO,
+        run: Run::Tells(demo::demo),
+    },
+    answers(
+        "key-test",
+        &["set", "folder", "f", "g", "a"],
+        help::KEY_TEST,
+        signer::key_test,
+    ),
+    answers(
+        "commit",
+        &["set", "folder", "a", "y1", "y2", "out"],
+        help::COMMIT,
+        signer::commit,
+    ),
+    answers(
+        "sign",
+        &[
+            "set",
+            "folder",
+            "f",
+            "g",
+            "a",
+            "y1",
+            "y2",
+            "list",
+            "sign",
+            "thresholds",
+            "words",
+            "record",
+        ],
+        help::SIGN,
+        signer::sign,
+    ),
+    answers(
+        "check",
+        &["a", "record", "hash", "sheet", "rebuilt", "hashed"],
+        help::CHECK,
+        checker::check,
+    ),
+    answers(
+        "rebuild",
+        &["a", "record", "out"],
+        help::REBUILD,
+        checker::rebuild_alone,
+    ),
+    answers(
+        "write",
+        &["set", "folder", "z1", "z2", "list", "record"],
+        help::WRITE,
+        records::write,
+    ),
+    answers("read", &["record", "folder"], help::READ, records::read),
+    Subcommand {
+        name: "inspect",
+        values: &["record"],
+        flags: &["json"],
+        words: &["FILE.."],
+        help: help::INSPECT,
+        run: Run::Tells(inspect::inspect),
+    },
+    Subcommand {
+        name: "completion",
+        values: &[],
+        flags: &[],
+        words: &["SHELL"],
+        help: help::COMPLETION,
+        run: Run::Tells(completion::completion),
+    },
+];

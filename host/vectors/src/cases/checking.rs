@@ -1,0 +1,86 @@
+//! The checker's calls: the refusals of rebuild and comparison, and sums at their limit.
+
+use super::{with_lengths, Recording};
+use crate::slots::{A, HASHED, LIST, RECORD, Z1, Z2_DAGGER};
+use second::parameters::N;
+use second::record::header;
+use second::testing::boundary::{largest_z2_dagger, signature_of_sum};
+use second::testing::calls::Call;
+use second::testing::sheet::Signature;
+use second::Set;
+
+impl Recording<'_> {
+    pub(super) fn rebuild_refusals(&mut self, signature: &Signature) {
+        let asked = self.asked();
+        let call = Call::Rebuild;
+        self.sets_and_lengths(call, asked, &[(A, N), (Z1, N), (Z2_DAGGER, N)]);
+        for length in [0, 511, 513] {
+            let other = with_lengths(asked, |lengths| lengths.rounded = length);
+            self.recorder.call(call, other);
+        }
+        self.recorder.patched(A, 511, 12289u16, |recorder| {
+            recorder.call(call, asked);
+            // Two faults: the list's comes after the coefficient's.
+            recorder.patched(LIST, 0, 512u16, |recorder| {
+                recorder.call(call, asked);
+            });
+        });
+        self.list_faults(LIST, &signature.list, |recorder| {
+            recorder.call(call, asked);
+        });
+        self.entry_faults(call, asked);
+    }
+
+    pub(super) fn comparisons(&mut self, list: &[u16]) {
+        let asked = self.asked();
+        self.sets_and_lengths(Call::Compare, asked, &[]);
+        for slot in [LIST, HASHED] {
+            self.list_faults(slot, list, |recorder| {
+                recorder.call(Call::Compare, asked);
+            });
+        }
+        let other = self.noise.list(self.set);
+        self.recorder.load(HASHED, &other);
+        self.call(Call::Compare);
+        // Two faults: the form comes before the difference.
+        self.recorder.patched(LIST, 0, 512u16, |recorder| {
+            recorder.call(Call::Compare, asked);
+        });
+        self.recorder.load(HASHED, list);
+    }
+
+    /// Sums exactly at B2 squared and one past it, and for set I every entry at largest.
+    pub(super) fn sums(&mut self) {
+        let list = self.noise.list(self.set);
+        let limit = self.set.b2_squared();
+        let (mut z1, z2_dagger) = signature_of_sum(self.set, limit, &mut self.noise);
+        self.sum(&z1, &z2_dagger, &list);
+        let zero = z1.iter().position(|&entry| entry == 0);
+        z1[zero.expect("most entries are zero")] = -1;
+        self.sum(&z1, &z2_dagger, &list);
+        if self.set != Set::I {
+            return;
+        }
+        // In 32 bits this sum would wrap to less than B2 squared.
+        let most = largest_z2_dagger(self.set) as i8;
+        self.recorder.load(Z1, &[self.set.largest() as i16; N]);
+        self.recorder.load(Z2_DAGGER, &[most; N]);
+        self.call(Call::Rebuild);
+        self.call(Call::Write);
+    }
+
+    /// Rebuild, writer, and reader of a record that is put together past the writer's test.
+    pub(super) fn sum(&mut self, z1: &[i16], z2_dagger: &[i8], list: &[u16]) {
+        self.recorder.load(LIST, list);
+        self.recorder.load(Z1, z1);
+        self.recorder.load(Z2_DAGGER, z2_dagger);
+        self.call(Call::Rebuild);
+        self.call(Call::Write);
+        let mut record = header(self.set).to_vec();
+        record.extend(z1.iter().flat_map(|entry| entry.to_le_bytes()));
+        record.extend(z2_dagger.iter().flat_map(|entry| entry.to_le_bytes()));
+        record.extend(list.iter().flat_map(|place| place.to_le_bytes()));
+        self.recorder.load(RECORD, &record);
+        self.call(Call::Read);
+    }
+}

@@ -1,0 +1,87 @@
+//! The cases of the file.
+
+mod checking;
+mod faults;
+mod keys;
+mod records;
+mod reference;
+mod signing;
+
+use crate::recorder::Recorder;
+use crate::slots::{Asked, A, F, G};
+use second::testing::calls::{Answered, Call, OutputLengths};
+use second::testing::keys::{published, Key};
+use second::testing::noise::Noise;
+use second::Set;
+
+/// The file of vectors that this seed makes.
+pub fn vectors(seed: u64) -> Vec<u8> {
+    let mut recorder = Recorder::default();
+    reference::reference_point(&mut recorder);
+    for set in Set::ALL {
+        let mut noise = Noise::part(seed, u64::from(set.number()));
+        let key = published(set, &mut noise);
+        let mut recording = Recording {
+            recorder: &mut recorder,
+            set,
+            noise,
+            key,
+        };
+        recording.key_tests();
+        let signed = recording.sheets();
+        recording.commitment_refusals();
+        recording.response_refusals(&signed.last_try);
+        recording.word_counts(&signed.last_try);
+        recording.rebuild_refusals(&signed.signature);
+        recording.comparisons(&signed.signature.list);
+        recording.writer_refusals(&signed.signature);
+        recording.reader_refusals(&signed.signature);
+        recording.sums();
+        recording.other_keys();
+        recording.more_keys();
+    }
+    recorder.finish()
+}
+
+/// A call of this set with sign bit 0 and every output array at its stated length.
+fn asked(set: u32) -> Asked {
+    Asked {
+        set,
+        sign: false,
+        lengths: OutputLengths::stated(Set::asked(set).expect("a set")),
+        fill: 0,
+    }
+}
+
+/// The same call with other lengths of its output arrays.
+fn with_lengths(asked: Asked, change: impl Fn(&mut OutputLengths)) -> Asked {
+    let mut lengths = asked.lengths;
+    change(&mut lengths);
+    Asked { lengths, ..asked }
+}
+
+fn load_key(recorder: &mut Recorder, key: &Key) {
+    recorder.load(F, &key.f);
+    recorder.load(G, &key.g);
+    recorder.load(A, &key.a);
+}
+
+/// The recording of one set's cases.
+struct Recording<'a> {
+    recorder: &'a mut Recorder,
+    set: Set,
+    noise: Noise,
+    key: Key,
+}
+
+impl Recording<'_> {
+    fn asked(&self) -> Asked {
+        asked(self.set.number())
+    }
+
+    /// Records a call with the set's number and outputs of the stated lengths.
+    fn call(&mut self, call: Call) -> Answered {
+        let asked = self.asked();
+        self.recorder.call(call, asked)
+    }
+}
