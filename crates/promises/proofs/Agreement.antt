@@ -36,7 +36,8 @@ use Rattle.choices.proofs.Bound.{choices-sized, choices-bound}
 use Rattle.choices.proofs.Pairs.{Sized}
 use Rattle.choices.proofs.Parity.{choices-odd, choices-even}
 use Rattle.choices.proofs.Product.{choices-carries}
-use Rattle.signing.specs.Response.{Lent, secret, responded, masked, daggers, responseFor, response}
+use Rattle.masking.specs.Masking.{masked, daggers}
+use Rattle.signing.specs.Response.{Lent, secret, responded, responseFor, response}
 use Rattle.signing.proofs.Ways.{are-sized}
 use Rattle.checking.specs.Checking.{claim, marks, rebuilt, rebuild, comparison}
 use Rattle.checking.proofs.Marks.{length-marks, getD-marks}

@@ -34,7 +34,7 @@ use Rattle.commitment.specs.Commitment.{sums}
 use Rattle.commitment.proofs.Sums.{length-sums}
 use Rattle.vectors.specs.Pairs.{pair}
 use Rattle.choices.specs.Choices.{addedIf}
-use Rattle.signing.specs.Response.{masked}
+use Rattle.masking.specs.Masking.{masked}
 use Rattle.checking.specs.Checking.{marks}
 use Rattle.checking.proofs.Marks.{length-marks, getD-marks}
 use Rattle.promises.specs.Published.{scaled, vectorSum, modulo2q, zeta, ZetaInverts, a₁, KeyEquation, CommitmentSum, challenge, RebuildSum, minusOneTo, SignBit, LengthRules}

@@ -18,7 +18,8 @@ use Rattle.commitment.specs.Commitment.{areMasks}
 use Rattle.vectors.specs.Pairs.{Pair, pair}
 use Rattle.choices.specs.Choices.{choices}
 use Rattle.draw.specs.Draw.{walkOf}
-use Rattle.signing.specs.Response.{Lent, secret, drawing, Responded, responded, leaving, masked, firstTrial, secondTrial, shortened, given, drawn, allSized, early, responseFor, response}
+use Rattle.masking.specs.Masking.{masked, firstTrial, secondTrial}
+use Rattle.signing.specs.Response.{Lent, secret, drawing, Responded, responded, leaving, shortened, given, drawn, allSized, early, responseFor, response}
 use Rattle.signing.proofs.Ways.{all-sized}
 use Rattle.promises.proofs.Passed.{must-passed, unless-passed, set-known, walk-accepted}
 use Rattle.promises.proofs.Keys.{Tested}

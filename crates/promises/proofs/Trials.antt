@@ -24,9 +24,10 @@ use Rattle.commitment.specs.Commitment.{areMasks}
 use Rattle.vectors.specs.Pairs.{Pair, pair}
 use Rattle.choices.specs.Choices.{addedIf, choices}
 use Rattle.choices.proofs.Pairs.{Sized, Within}
-use Rattle.signing.specs.Response.{masked}
-use Rattle.signing.proofs.Numbers.{first-mask, second-mask, sizes-z, trial-fits}
-use Rattle.signing.proofs.Ways.{short-key, chosen-sized, chosen-short, chosen-within}
+use Rattle.masking.specs.Masking.{masked}
+use Rattle.masking.proofs.Numbers.{first-mask, second-mask, sizes-z, trial-fits}
+use Rattle.masking.proofs.Chosen.{chosen-sized, chosen-short, chosen-within}
+use Rattle.signing.proofs.Ways.{short-key}
 use Rattle.promises.specs.Demands.{TrialsFit}
 use Rattle.promises.proofs.Keys.{Tested, key-sized, passing}
 

@@ -17,7 +17,8 @@ use Rattle.vectors.specs.Places.{properList}
 use Rattle.keys.specs.Key.{keyTest}
 use Rattle.commitment.specs.Commitment.{areMasks, committed, commitment}
 use Rattle.choices.specs.Choices.{choices}
-use Rattle.signing.specs.Response.{Lent, secret, drawing, responded, masked, firstTrial, secondTrial, drawn, response}
+use Rattle.masking.specs.Masking.{masked, firstTrial, secondTrial}
+use Rattle.signing.specs.Response.{Lent, secret, drawing, responded, drawn, response}
 use Rattle.checking.specs.Checking.{Claim, claim, rebuild, comparison}
 use Rattle.records.specs.Writer.{writingOf}
 use Rattle.records.specs.Reader.{found, readingOf}

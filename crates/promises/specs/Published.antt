@@ -22,7 +22,7 @@ use Rattle.keys.specs.Key.{second, keyTest}
 use Rattle.commitment.specs.Commitment.{sums}
 use Rattle.vectors.specs.Pairs.{Pair, pair}
 use Rattle.choices.specs.Choices.{choices}
-use Rattle.signing.specs.Response.{masked}
+use Rattle.masking.specs.Masking.{masked}
 use Rattle.checking.specs.Checking.{marks}
 
 -- ---- polynomials with coefficients modulo 2q

@@ -75,10 +75,10 @@ fn show(s: Set, v1: &[i16], v2: &[i16])
     print_half(b"  v1", v1, kappa);
     print_half(b"  v2", v2, kappa);
     print_number(b"  squared length of v: ", squared_length(v1, v2));
-    print_number(b"  first trial: ", signing::first_trial(s, v1, v2) as u64);
+    print_number(b"  first trial: ", masking::first_trial(s, v1, v2) as u64);
     print_number(
         b"  second trial: ",
-        signing::second_trial(v1, v2, v1, v2) as u64,
+        masking::second_trial(v1, v2, v1, v2) as u64,
     );
 }
 

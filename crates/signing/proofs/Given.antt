@@ -15,7 +15,8 @@ use Rattle.vectors.specs.Pairs.{Pair, pair}
 use Rattle.draw.specs.declared.Ending.{Ending}
 use Rattle.draw.specs.declared.Ending.the-variants.{Accepted, Rejected, OutOfWords}
 use Rattle.draw.specs.Draw.{walkOf}
-use Rattle.signing.specs.Response.{Drawing, Responded, responded, leaving, masked, firstTrial, secondTrial, daggers, shortened, given, drawn}
+use Rattle.masking.specs.Masking.{masked, firstTrial, secondTrial, daggers}
+use Rattle.signing.specs.Response.{Drawing, Responded, responded, leaving, shortened, given, drawn}
 
 module _ (s : Set) (old : Pair) (count : ℕ) (z : Pair) (o : Outcome) (r : Bool) (e : o ≡ lengthRule s (z .first) (z .second)) (f : r ≡ isDone o) where
   pub given-refused : not r ≡ true → leaving old count o ≡ given s old count z

@@ -1,4 +1,3 @@
--- What the response's proofs cite: `Numbers` for sizes, `Ways` before the draw, `Given` after it.
-pub mod Numbers
+-- What the response's proofs cite: `Ways` before the draw, `Given` after it.
 pub mod Ways
 pub mod Given

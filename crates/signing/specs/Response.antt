@@ -1,26 +1,25 @@
 -- The response (01, "Response", "The draw", "Length rule" and "Numbers that come back").
-use mathlib.Core.Bool.{Bool, not, _&&_}
+use mathlib.Core.Bool.{Bool, _&&_}
 use mathlib.Core.List.{List}
-use Prim.Native.Nat.{ℕ, _*_, _-_}
+use Prim.Native.Nat.{ℕ}
 use lib.Dec.{eqb}
-use lib.IntN.{ℤ, natAbs}
+use lib.IntN.{ℤ}
 use lib.ListN.{length}
-use Rattle.laws.specs.Lists.{zipWith}
 use Rattle.laws.specs.Refusals.{must}
 use Rattle.sets.specs.declared.Set.{Set}
-use Rattle.sets.specs.Numbers.{places, kappaOf, keyLimitOf, askedOf}
+use Rattle.sets.specs.Numbers.{places, askedOf}
 use Rattle.answers.specs.declared.Outcome.{Outcome}
 use Rattle.answers.specs.declared.Outcome.the-variants.{Done, UnknownSet, WrongLength, CoefficientOutside, MaskOutside, ImproperList, DrawRejected, WordMissing}
 use Rattle.answers.specs.Outcomes.{unless, forSet}
-use Rattle.rounding.specs.Rounding.{dagger}
 use Rattle.vectors.specs.Vectors.{sized}
-use Rattle.vectors.specs.Pairs.{Pair, pair, squaresPair, innerPair}
+use Rattle.vectors.specs.Pairs.{Pair, pair}
 use Rattle.vectors.specs.Places.{properList}
 use Rattle.limits.specs.LengthRule.{lengthRule}
 use Rattle.keys.specs.Key.{inRange, second, properKey}
 use Rattle.commitment.specs.Commitment.{areMasks, sums}
-use Rattle.choices.specs.Choices.{addedIf, choices}
+use Rattle.choices.specs.Choices.{choices}
 use Rattle.draw.specs.Draw.{walkOf, afterWalk}
+use Rattle.masking.specs.Masking.{masked, firstTrial, secondTrial, daggers}
 
 -- ---- what goes in, and what is left behind
 
@@ -63,23 +62,7 @@ pub data Responded : Type 0 where
 abbrev pub leaving : Pair → ℕ → Outcome → Responded
 leaving x count o = responded o count (x .first) (x .second)
 
--- ---- z, and the numbers of the trials
-
--- z = y + v for sign bit 0, y - v for sign bit 1, over whole numbers
-unfoldable pub masked : Bool → Pair → Pair → Pair
-masked bit y v = pair (zipWith (addedIf (not bit)) (y .first) (v .first)) (zipWith (addedIf (not bit)) (y .second) (v .second))
-
--- kappa K minus the squared length of v
-abbrev pub firstTrial : Set → Pair → ℕ
-firstTrial s v = kappaOf s * keyLimitOf s - squaresPair v
-
--- twice the absolute value of the inner product of z and v
-abbrev pub secondTrial : Pair → Pair → ℕ
-secondTrial z v = 2 * natAbs (innerPair z v)
-
--- z2 dagger: the upper digits of u minus the upper digits of (u - z2 modulo 24578), centred modulo p
-unfoldable pub daggers : Set → List ℕ → List ℤ → List ℤ
-daggers s u z2 = zipWith (dagger s) u z2
+-- ---- what is given out
 
 -- z1 and z2 dagger, where u is made anew from a, y1 and y2
 abbrev pub shortened : Set → Drawing → Pair → Pair

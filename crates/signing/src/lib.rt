@@ -1,21 +1,22 @@
 // The response: sign choices, draw, length rule (01, "Response", "The draw", "Length rule").
 ghost use mathlib.Core.Path.{_≡_};
-ghost use mathlib.Core.Bool.{true, not, _&&_};
-ghost use Prim.Native.Nat.{ℕ, _+_, _*_, _^_, _<_, _≤_};
+ghost use mathlib.Core.Bool.{true, _&&_};
+ghost use Prim.Native.Nat.{ℕ, _+_, _*_, _≤_};
 ghost use lib.Dec.{eqb};
 ghost use lib.IntN.{pos, natAbs};
 ghost use lib.ListN.{length, getD};
-ghost use Rattle.laws.specs.Lists.{every, zipWith};
+ghost use Rattle.laws.specs.Lists.{every};
 ghost use Rattle.sets.specs.Numbers.{dimension, places, kappaOf, keyLimitOf};
 ghost use Rattle.answers.specs.Outcomes.{unless};
 ghost use Rattle.ring.specs.Transform.{spectrumOf};
-ghost use Rattle.vectors.specs.Vectors.{within, squares, sizes};
+ghost use Rattle.vectors.specs.Vectors.{within, squares};
 ghost use Rattle.vectors.specs.Places.{properList};
 ghost use Rattle.keys.specs.Key.{properKey};
-ghost use Rattle.commitment.specs.Commitment.{isReduced, areMasks, sums};
+ghost use Rattle.commitment.specs.Commitment.{areMasks, sums};
 ghost use Rattle.vectors.specs.Pairs.{pair};
-ghost use Rattle.choices.specs.Choices.{addedIf, choices};
-ghost use Rattle.signing.specs.Response.{responded, leaving, firstTrial, secondTrial, daggers, shortened, given, drawn, responseFor, response};
+ghost use Rattle.choices.specs.Choices.{choices};
+ghost use Rattle.masking.specs.Masking.{daggers};
+ghost use Rattle.signing.specs.Response.{responded, leaving, given, drawn, responseFor, response};
 use answers::Outcome;
 use draw::Ending;
 use sets::Asked;
@@ -269,10 +270,10 @@ fn draw_for(
 {
     let mut w1 = [0i16; Set::DIMENSION];
     let mut w2 = [0i16; Set::DIMENSION];
-    mask(y1, v1, sign, &mut w1);
-    mask(y2, v2, sign, &mut w2);
-    let first = first_trial(s, v1, v2);
-    let second = second_trial(&w1, &w2, v1, v2);
+    masking::mask(y1, v1, sign, &mut w1);
+    masking::mask(y2, v2, sign, &mut w2);
+    let first = masking::first_trial(s, v1, v2);
+    let second = masking::second_trial(&w1, &w2, v1, v2);
     match draw::walk(first, second, words, thresholds) {
         Ending::OutOfWords => Response {
             outcome: Outcome::WordMissing,
@@ -286,44 +287,7 @@ fn draw_for(
     }
 }
 
-// y + v, or y - v where the sign bit is set.
-fn mask(y: &[i16], v: &[i16], sign: bool, z: &mut [i16])
-    requires { ⌜ (length (now y) ≡ dimension) × (length (now v) ≡ dimension) × (length (now z) ≡ dimension) ⌝ }
-    requires { ⌜ ((k : ℕ) → natAbs (getD (now y) k (pos 0)) + natAbs (getD (now v) k (pos 0)) < 32768) ⌝ }
-    ensures { λ _. ⌜ now (z .exit) ≡ zipWith (addedIf (not sign)) (now (y .entry)) (now (v .entry)) ⌝ }
-{
-    vectors::copy(z, y);
-    if sign {
-        vectors::subtract_from(z, v);
-    } else {
-        vectors::add_to(z, v);
-    }
-}
-
-// kappa K minus the squared length of v, which is never negative.
-pub fn first_trial(s: Set, v1: &[i16], v2: &[i16]) -> u32
-    requires { ⌜ (length (now v1) ≡ dimension) × (length (now v2) ≡ dimension) × (squares (now v1) + squares (now v2) ≤ kappaOf s * keyLimitOf s) ⌝ }
-    ensures { λ r. ⌜ r ≡ firstTrial s (pair (now (v1 .entry)) (now (v2 .entry))) ⌝ }
-{
-    let whole = (s.kappa() as u64) * s.key_limit();
-    (whole - (vectors::squared_length(v1) + vectors::squared_length(v2))) as u32
-}
-
-// Twice the absolute value of the inner product of z and v.
-pub fn second_trial(z1: &[i16], z2: &[i16], v1: &[i16], v2: &[i16]) -> u32
-    requires { ⌜ (length (now z1) ≡ dimension) × (length (now z2) ≡ dimension) × (length (now v1) ≡ dimension) × (length (now v2) ≡ dimension) ⌝ }
-    requires { ⌜ sizes (now z1) (now v1) + sizes (now z2) (now v2) < 2 ^ 30 ⌝ }
-    ensures { λ r. ⌜ r ≡ secondTrial (pair (now (z1 .entry)) (now (z2 .entry))) (pair (now (v1 .entry)) (now (v2 .entry))) ⌝ }
-{
-    let inner = vectors::inner_product(z1, v1) + vectors::inner_product(z2, v2);
-    if inner < 0 {
-        2 * ((0 - inner) as u32)
-    } else {
-        2 * (inner as u32)
-    }
-}
-
-// u, z2 dagger and the length rule: refusals 10, 11.
+// z2 dagger and the length rule: refusals 10, 11.
 fn give(
     s: Set,
     a: &[u16],
@@ -342,12 +306,8 @@ fn give(
         ≡ given s (pair (now (z1 .entry)) (now (z2 .entry))) taken
         (pair (now (w1 .entry)) (daggers s (sums (now (a .entry)) (now (y1 .entry)) (now (y2 .entry))) (now (w2 .entry)))) ⌝ }
 {
-    let mut t = [0u16; Set::DIMENSION];
-    ring::multiply(a, spectrum, y1, &mut t);
-    let mut u = [0u32; Set::DIMENSION];
-    commitment::add_sums(&t, y2, &mut u);
     let mut rounded = [0i8; Set::DIMENSION];
-    make_daggers(s, &u, w2, &mut rounded);
+    masking::shorten(s, a, spectrum, y1, y2, w2, &mut rounded);
     let o = limits::length_rule(s, w1, &rounded);
     if !o.is_done() {
         return Response {
@@ -360,17 +320,6 @@ fn give(
     Response {
         outcome: Outcome::Done,
         words: taken,
-    }
-}
-
-fn make_daggers(s: Set, u: &[u32], z: &[i16], out: &mut [i8])
-    requires { ⌜ (length (now u) ≡ dimension) × (length (now z) ≡ dimension) × (length (now out) ≡ dimension) × isReduced (now u) ⌝ }
-    ensures { λ _. ⌜ now (out .exit) ≡ daggers s (now (u .entry)) (now (z .entry)) ⌝ }
-{
-    let d = s.d();
-    let p = s.p();
-    for i in 0..Set::DIMENSION {
-        out[i] = rounding::dagger(s, d, p, u[i], z[i]);
     }
 }
 

@@ -8,7 +8,7 @@ use Rattle.vectors.specs.Vectors.{squares}
 use Rattle.vectors.proofs.Rising.{proper-places}
 use Rattle.vectors.specs.Pairs.{pair}
 use Rattle.choices.proofs.Pairs.{Within}
-use Rattle.signing.proofs.Ways.{few-places, chosen-short, chosen-within}
+use Rattle.masking.proofs.Chosen.{few-places, chosen-short, chosen-within}
 use Rattle.response_points.proofs.choose.Statement.{statement}
 use Rattle.response_points.proofs.choose.Tie as tie
 

@@ -8,7 +8,7 @@ use Rattle.sets.specs.Numbers.{maskLimit, kappaOf}
 use Rattle.sets.proofs.Alike.{kappa-within, first-trial}
 use Rattle.vectors.specs.Vectors.{squares, sizes}
 use Rattle.vectors.proofs.Lengths.{sizes-le-times}
-use Rattle.signing.proofs.Numbers.{trial-fits}
+use Rattle.masking.proofs.Numbers.{trial-fits}
 use Rattle.response_points.proofs.show.Statement.{statement}
 use Rattle.response_points.proofs.show.Tie as tie
 

@@ -11,9 +11,10 @@ use Rattle.vectors.specs.Vectors.{squares, sizes}
 use Rattle.vectors.specs.Pairs.{Pair, pair}
 use Rattle.choices.specs.Choices.{addedIf}
 use Rattle.draw.specs.Draw.{walkOf}
-use Rattle.signing.specs.Response.{Drawing, masked, firstTrial, secondTrial}
+use Rattle.masking.specs.Masking.{masked, firstTrial, secondTrial}
+use Rattle.signing.specs.Response.{Drawing}
 use Rattle.signing.proofs.Given.{drawn-short, drawn-rejected, drawn-accepted, given-carried}
-use Rattle.signing.proofs.Numbers.{first-mask, second-mask, sum-fits, sizes-z, trial-fits}
+use Rattle.masking.proofs.Numbers.{first-mask, second-mask, sum-fits, sizes-z, trial-fits}
 use borrow.Author.Needs.{needs}
 use Rattle.signing.proofs.draw_for.Statement.{statement}
 use Rattle.signing.proofs.draw_for.Tie as tie

@@ -4,37 +4,17 @@ use lib.IntN.{ℤ}
 use Rattle.vectors.specs.Pairs.{pair}
 use Rattle.limits.specs.LengthRule.{lengthRule}
 use Rattle.commitment.specs.Commitment.{sums}
-use Rattle.commitment.proofs.Sums.{reduced-zip}
-use Rattle.signing.specs.Response.{daggers}
+use Rattle.masking.specs.Masking.{daggers}
 use Rattle.signing.proofs.Given.{given-refused, given-out}
 use borrow.Author.Needs.{needs}
 use Rattle.signing.proofs.give.Statement.{statement}
 use Rattle.signing.proofs.give.Tie as tie
 
-slice-aggregate-multiply : tie.Need-slice-aggregate-multiply
-slice-aggregate-multiply c = search needs
+slice-aggregate-shorten : tie.Need-slice-aggregate-shorten
+slice-aggregate-shorten c = search needs
 
-multiply-requires : tie.Need-multiply-requires
-multiply-requires c κs = search needs
-
-slice-aggregate-add-sums : tie.Need-slice-aggregate-add-sums
-slice-aggregate-add-sums c = search needs
-
-slice-aggregate-add-sums-2 : tie.Need-slice-aggregate-add-sums-2
-slice-aggregate-add-sums-2 c = search needs
-
-add-sums-requires : tie.Need-add-sums-requires
-add-sums-requires c κs = search needs
-
-slice-aggregate-make-daggers : tie.Need-slice-aggregate-make-daggers
-slice-aggregate-make-daggers c = search needs
-
-slice-aggregate-make-daggers-2 : tie.Need-slice-aggregate-make-daggers-2
-slice-aggregate-make-daggers-2 c = search needs
-
-make-daggers-requires : tie.Need-make-daggers-requires
-make-daggers-requires c κs =
-    (search needs, search needs, search needs, rw (c .before .before .before .add-sums .ensures) (reduced-zip _ _))
+shorten-requires : tie.Need-shorten-requires
+shorten-requires c κs = search needs
 
 slice-aggregate-length-rule : tie.Need-slice-aggregate-length-rule
 slice-aggregate-length-rule c = search needs
@@ -47,14 +27,13 @@ is-done-requires c κs = search needs
 
 module _ (c : tie.After-length-rule) where
   abbrev start : tie.Start
-  start = c .before .before .before .before .before .before .before .before .before .before .before .before .before .before .before
+  start = c .before .before .before .before .before .before .before
 
   abbrev D : List ℤ
   D = daggers (start .args .s) (sums (start .args .a .now) (start .args .y1 .now) (start .args .y2 .now)) (start .args .w2 .now)
 
-  rounded : c .before .before .before .make-daggers .last .1 .1 .1 .0 ≡ D
-  unfolding sums
-  rounded = cc
+  rounded : c .before .before .before .shorten .last .1 .1 .1 .1 .1 .1 .0 ≡ D
+  rounded = c .before .before .before .shorten .ensures
 
   ruled : c .length-rule .result ≡ lengthRule (start .args .s) (start .args .w1 .now) D
   ruled = c .length-rule .ensures ∙ ap (lengthRule (start .args .s) (start .args .w1 .now)) rounded
@@ -90,14 +69,8 @@ pub give-spec : {M : Type 1} → statement M
 give-spec =
     tie.close
     (tie.spec
-    slice-aggregate-multiply
-    multiply-requires
-    slice-aggregate-add-sums
-    slice-aggregate-add-sums-2
-    add-sums-requires
-    slice-aggregate-make-daggers
-    slice-aggregate-make-daggers-2
-    make-daggers-requires
+    slice-aggregate-shorten
+    shorten-requires
     slice-aggregate-length-rule
     length-rule-requires
     is-done-requires

@@ -15,7 +15,8 @@ use Rattle.keys.specs.Key.{properKey}
 use Rattle.vectors.specs.Pairs.{pair}
 use Rattle.choices.proofs.Pairs.{Sized, Within}
 use Rattle.signing.specs.Response.{leaving, drawn}
-use Rattle.signing.proofs.Ways.{refusal-at, short-key, few-places, chosen-sized, chosen-short, chosen-within}
+use Rattle.masking.proofs.Chosen.{few-places, chosen-sized, chosen-short, chosen-within}
+use Rattle.signing.proofs.Ways.{refusal-at, short-key}
 use Rattle.signing.proofs.sign_with.Statement.{statement}
 use Rattle.signing.proofs.sign_with.Tie as tie
 

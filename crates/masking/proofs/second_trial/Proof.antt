@@ -8,8 +8,8 @@ use Rattle.laws.proofs.Bounds.{abs-add}
 use Rattle.laws.proofs.Machine.{size-turns, size-below, size-below-cast, size-from-cast, Reads, element, add-ok, add-is, unsigned-is}
 use Rattle.vectors.specs.Vectors.{inner}
 use Rattle.vectors.proofs.Sums.{inner-le-sizes}
-use Rattle.signing.proofs.second_trial.Statement.{statement}
-use Rattle.signing.proofs.second_trial.Tie as tie
+use Rattle.masking.proofs.second_trial.Statement.{statement}
+use Rattle.masking.proofs.second_trial.Tie as tie
 
 inner-product-requires : tie.Need-inner-product-requires
 inner-product-requires c κs = (c .pre .0 .0, c .pre .0 .2, omega arith)

@@ -14,9 +14,9 @@ use Rattle.laws.proofs.Machine.{element}
 use Rattle.sets.specs.declared.Set.{Set}
 use Rattle.sets.specs.Numbers.{dimension}
 use Rattle.rounding.specs.Rounding.{dagger}
-use Rattle.signing.specs.Response.{daggers}
-use Rattle.signing.proofs.make_daggers.Statement.{statement}
-use Rattle.signing.proofs.make_daggers.Tie as tie
+use Rattle.masking.specs.Masking.{daggers}
+use Rattle.masking.proofs.make_daggers.Statement.{statement}
+use Rattle.masking.proofs.make_daggers.Tie as tie
 
 abbrev Inv-loop : tie.InvT-loop
 Inv-loop s u z out₀ d p i₀ out i = (i ≤ dimension) × Rewritten out₀ (zipWith (dagger s) u z) i out

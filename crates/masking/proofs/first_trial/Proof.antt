@@ -6,8 +6,8 @@ use Rattle.sets.specs.declared.Set.{Set}
 use Rattle.sets.specs.Numbers.{kappaOf, keyLimitOf}
 use Rattle.sets.proofs.Alike.{first-trial}
 use Rattle.vectors.specs.Vectors.{squares}
-use Rattle.signing.proofs.first_trial.Statement.{statement}
-use Rattle.signing.proofs.first_trial.Tie as tie
+use Rattle.masking.proofs.first_trial.Statement.{statement}
+use Rattle.masking.proofs.first_trial.Tie as tie
 
 kappa-requires : tie.Need-kappa-requires
 kappa-requires c κs = search needs

@@ -7,8 +7,8 @@ use lib.IntN.{ℤ, pos, natAbs}
 use lib.ListN.{length, getD}
 use Rattle.laws.specs.Lists.{zipWith}
 use Rattle.choices.specs.Choices.{addedIf}
-use Rattle.signing.proofs.mask.Statement.{statement}
-use Rattle.signing.proofs.mask.Tie as tie
+use Rattle.masking.proofs.mask.Statement.{statement}
+use Rattle.masking.proofs.mask.Tie as tie
 
 -- each sum fits, of the list x that is y
 carried : (x y v : List ℤ) → x ≡ y → ((k : ℕ) → natAbs (getD y k (pos 0)) + natAbs (getD v k (pos 0)) < 32768)

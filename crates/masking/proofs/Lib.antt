@@ -1,0 +1,3 @@
+-- What is bound of v (`Chosen`) and of z (`Numbers`).
+pub mod Chosen
+pub mod Numbers

@@ -1,0 +1,2 @@
+-- 01, "Response" and "The draw".
+pub mod Masking
