@@ -1,2 +1,3 @@
--- 01, "Numbers that come back".
+-- 01, "Numbers that come back", "Parameters" and "The record".
 pub mod Outcomes
+pub mod Sizes

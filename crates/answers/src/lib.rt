@@ -1,4 +1,6 @@
 // The answers of all calls, with the paper's number and place for each (01, "Numbers that come back").
+pub mod sizes;
+
 ghost use mathlib.Core.Path.{_≡_};
 ghost use Rattle.answers.specs.Outcomes.{numberOf, placeOf, isDone};
 

@@ -1,6 +1,6 @@
 // The C library: each export is its call, with the answer as numbers. include/bursztok.h declares the same names for C.
 ghost use mathlib.Core.Path.{_≡_};
-ghost use Rattle.sets.specs.Numbers.{kappaOf, totalOf};
+ghost use Rattle.answers.specs.Sizes.{kappaAsked, recordBytesAsked};
 ghost use Rattle.keys.specs.Key.{keyTest};
 ghost use Rattle.commitment.specs.Commitment.{commitment};
 ghost use Rattle.signing.specs.Response.{response};
@@ -9,14 +9,11 @@ ghost use Rattle.record_forms.specs.Sections.{z1Section, z2Section, listSection
 ghost use Rattle.records.specs.Writer.{writingOf};
 ghost use Rattle.records.specs.Reader.{readingOf};
 ghost use lib.ListN.{length};
-ghost use Rattle.bursztok.specs.Sizes.{kappaAsked, recordBytesAsked};
 ghost use Rattle.bursztok.specs.Exports.{answerOf, left, leftBy, responseWith, replied, repliedBy, readingWith, stored, storedBy, partAt, located, locatedBy};
 use answers::Outcome;
 use record_forms::LIST_OFFSET;
 use record_forms::Z1_OFFSET;
 use record_forms::Z2_OFFSET;
-use sets::Asked;
-use sets::Set;
 
 #[repr(C)]
 pub struct Answer {
@@ -223,10 +220,7 @@ fn part_at(number: u32, offset: usize, part: &[u8]) -> Part
 pub extern "C" fn bursztok_kappa(set: u32) -> u32
     ensures { λ r. ⌜ r ≡ kappaAsked set ⌝ }
 {
-    match Set::asked(set) {
-        Asked::Unknown => 0,
-        Asked::Known(s) => kappa_of(s),
-    }
+    answers::sizes::kappa(set)
 }
 
 // The bytes of a record of that set.
@@ -234,20 +228,5 @@ pub extern "C" fn bursztok_kappa(set: u32) -> u32
 pub extern "C" fn bursztok_record_bytes(set: u32) -> u32
     ensures { λ r. ⌜ r ≡ recordBytesAsked set ⌝ }
 {
-    match Set::asked(set) {
-        Asked::Unknown => 0,
-        Asked::Known(s) => record_bytes_of(s),
-    }
-}
-
-fn kappa_of(s: Set) -> u32
-    ensures { λ r. ⌜ r ≡ kappaOf s ⌝ }
-{
-    s.kappa() as u32
-}
-
-fn record_bytes_of(s: Set) -> u32
-    ensures { λ r. ⌜ r ≡ totalOf s ⌝ }
-{
-    s.total() as u32
+    answers::sizes::record_bytes(set)
 }

@@ -1,8 +1,8 @@
 use native.Mathlib.Omega.{arith}
 use borrow.Author.Needs.{needs}
 use Rattle.sets.proofs.Alike.{kappa-within}
-use Rattle.bursztok.proofs.kappa_of.Statement.{statement}
-use Rattle.bursztok.proofs.kappa_of.Tie as tie
+use Rattle.answers.proofs.sizes.kappa_of.Statement.{statement}
+use Rattle.answers.proofs.sizes.kappa_of.Tie as tie
 
 kappa-requires : tie.Need-kappa-requires
 kappa-requires c κs = search needs

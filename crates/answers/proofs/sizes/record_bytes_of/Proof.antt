@@ -1,8 +1,8 @@
 use native.Mathlib.Omega.{arith}
 use borrow.Author.Needs.{needs}
 use Rattle.sets.proofs.Alike.{total-within}
-use Rattle.bursztok.proofs.record_bytes_of.Statement.{statement}
-use Rattle.bursztok.proofs.record_bytes_of.Tie as tie
+use Rattle.answers.proofs.sizes.record_bytes_of.Statement.{statement}
+use Rattle.answers.proofs.sizes.record_bytes_of.Tie as tie
 
 total-requires : tie.Need-total-requires
 total-requires c κs = search needs

@@ -1,7 +1,7 @@
 use Rattle.answers.proofs.Calls.{calls}
 use borrow.Author.Needs.{needs}
-use Rattle.bursztok.proofs.bursztok_record_bytes.Statement.{statement}
-use Rattle.bursztok.proofs.bursztok_record_bytes.Tie as tie
+use Rattle.answers.proofs.sizes.record_bytes.Statement.{statement}
+use Rattle.answers.proofs.sizes.record_bytes.Tie as tie
 
 asked-requires : tie.Need-asked-requires
 asked-requires c κs = search needs
@@ -21,5 +21,5 @@ returns c = search calls
 returns-2 : tie.Need-returns-2
 returns-2 c = search calls
 
-pub bursztok-record-bytes-spec : {M : Type 1} → statement M
-bursztok-record-bytes-spec = tie.close (tie.spec asked-requires enum-told enum-known-s record-bytes-of-requires returns returns-2)
+pub record-bytes-spec : {M : Type 1} → statement M
+record-bytes-spec = tie.close (tie.spec asked-requires enum-told enum-known-s record-bytes-of-requires returns returns-2)

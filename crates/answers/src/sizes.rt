@@ -1,0 +1,38 @@
+// The sizes of a set, for a caller that holds no table of the sets (01, "Parameters" and "The record").
+ghost use mathlib.Core.Path.{_≡_};
+ghost use Rattle.sets.specs.Numbers.{kappaOf, totalOf};
+ghost use Rattle.answers.specs.Sizes.{kappaAsked, recordBytesAsked};
+use sets::Asked;
+use sets::Set;
+
+// The places of a list of the set that a number asks for; 0 where there is no such set.
+pub fn kappa(set: u32) -> u32
+    ensures { λ r. ⌜ r ≡ kappaAsked set ⌝ }
+{
+    match Set::asked(set) {
+        Asked::Unknown => 0,
+        Asked::Known(s) => kappa_of(s),
+    }
+}
+
+// The bytes of a record of that set.
+pub fn record_bytes(set: u32) -> u32
+    ensures { λ r. ⌜ r ≡ recordBytesAsked set ⌝ }
+{
+    match Set::asked(set) {
+        Asked::Unknown => 0,
+        Asked::Known(s) => record_bytes_of(s),
+    }
+}
+
+fn kappa_of(s: Set) -> u32
+    ensures { λ r. ⌜ r ≡ kappaOf s ⌝ }
+{
+    s.kappa() as u32
+}
+
+fn record_bytes_of(s: Set) -> u32
+    ensures { λ r. ⌜ r ≡ totalOf s ⌝ }
+{
+    s.total() as u32
+}
