@@ -42,6 +42,16 @@ proper-length r o s z1 z2 list e f t =
 pub room : (n total : ℕ) (s : Set) → total ≡ totalOf s → total ≤ n → totalOf s ≤ n
 room n total s e h = omega arith
 
+-- the record's end is not before its list, and a part up to it has two bytes for each entry
+pub after-list : (total : ℕ) (s : Set) → total ≡ totalOf s → listOffset ≤ total
+after-list total s e = omega arith
+
+pub rec-long : (n total : ℕ) (s : Set) → n ≡ totalOf s → total ≡ totalOf s → total ≤ n
+rec-long n total s e f = omega arith
+
+pub list-long : (n total entries : ℕ) (s : Set) → n ≡ total - listOffset → total ≡ totalOf s → entries ≡ kappaOf s → n ≡ 2 * entries
+list-long n total entries s e f h = omega arith
+
 pub stated-total : (h : Header) (rec : List ℕ) (s : Set) → h ≡ headerIn rec → h ≡ States s → length rec ≡ totalOf s
 stated-total h rec s e f = stated rec (sym e ∙ f) .total
 

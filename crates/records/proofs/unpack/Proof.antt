@@ -1,5 +1,7 @@
+use mathlib.Core.Path.{sym, ap, _∙_}
+use Prim.Native.Nat.{ℕ, _*_}
 use Rattle.byte_codes.specs.Bytes.{fromComplement}
-use Rattle.records.proofs.Buffers.{kappa-room, front-long, places-long, places-read, entries-read}
+use Rattle.records.proofs.Buffers.{after-list, rec-long, kappa-room, front-long, places-long, places-read, entries-read}
 use borrow.Author.Needs.{needs}
 use Rattle.records.proofs.unpack.Statement.{statement}
 use Rattle.records.proofs.unpack.Tie as tie
@@ -20,7 +22,7 @@ part-unpack-wide-end : tie.Need-part-unpack-wide-end
 part-unpack-wide-end c = search needs
 
 unpack-wide-requires : tie.Need-unpack-wide-requires
-unpack-wide-requires c κs = search needs
+unpack-wide-requires c κs = c .before .unpack-wide-arg .given .2 ∙ sym (ap (λ (n : ℕ). 2 * n) (c .before .before .before .before .before .before .pre .1))
 
 sub-unpack-narrow : tie.Need-sub-unpack-narrow
 sub-unpack-narrow c = search needs
@@ -32,16 +34,23 @@ part-unpack-narrow-end : tie.Need-part-unpack-narrow-end
 part-unpack-narrow-end c = search needs
 
 unpack-narrow-requires : tie.Need-unpack-narrow-requires
-unpack-narrow-requires c κs = search needs
+unpack-narrow-requires c κs = c .before .unpack-narrow-arg .given .2 ∙ sym (ap (λ (n : ℕ). 1 * n) (c .before .before .before .before .before .before .before .before .before .before .pre .2))
 
 sub-unpack-places : tie.Need-sub-unpack-places
-sub-unpack-places c = search needs
+sub-unpack-places c =
+    let t = c .before .before .before .before .before .before .before .before in
+    after-list _ (t .before .before .before .before .args .s) (t .total .ensures)
 
 part-unpack-places-start : tie.Need-part-unpack-places-start
-part-unpack-places-start c = search needs
+part-unpack-places-start c =
+    let t = c .before .before .before .before .before .before .before .before in
+    after-list _ (t .before .before .before .before .args .s) (t .total .ensures)
 
 part-unpack-places-end : tie.Need-part-unpack-places-end
-part-unpack-places-end c = search needs
+part-unpack-places-end c =
+    let t = c .before .before .before .before .before .before .before .before in
+    let s = t .before .before .before .before in
+    rec-long _ _ (s .args .s) (s .pre .0) (t .total .ensures)
 
 slice-relend-prefix-unpack-places : tie.Need-slice-relend-prefix-unpack-places
 slice-relend-prefix-unpack-places c =
@@ -62,13 +71,13 @@ unpack-places-requires c κs =
     places-long (s .args .rec .now) (s .args .list .now) _ _ (s .args .s) (t .before .kappa .ensures) (t .total .ensures) (s .pre .3) (s .pre .0)
 
 same-length : tie.Need-same-length
-same-length c = search needs
+same-length c = c .before .before .before .before .before .before .before .before .before .z1 .given
 
 same-length-2 : tie.Need-same-length-2
-same-length-2 c = search needs
+same-length-2 c = c .before .before .before .before .before .z2 .given
 
 same-length-3 : tie.Need-same-length-3
-same-length-3 c = search needs
+same-length-3 c = c .before .list .given .1
 
 returns : tie.Need-returns
 returns c =
