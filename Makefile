@@ -19,7 +19,7 @@ CARGO = cd host && cargo
 RUN = $(CARGO) run --quiet --release --offline --bin
 TOOLS = host/target/release
 
-.PHONY: help test check lib library shared desk demo host-test planted example bench soak vectors install clean cargo toolchain
+.PHONY: help test check lib library shared desk demo host-test planted example stack bench soak vectors install clean cargo toolchain
 
 help: ## lists the targets
 	@sed -n 's/^\([a-z-]*\):.*## /\1|/p' Makefile | awk -F'|' '{ printf "make %-10s %s\n", $$1, $$2 }'
@@ -64,6 +64,10 @@ planted: cargo library ## plants the faults of host/planted in host/ one by one;
 example: library ## compiles and runs examples/sheet.c
 	@tools/x86-64 compile target/sheet examples/sheet.c $(LIBRARY)
 	@tools/x86-64 run target/sheet
+
+stack: library ## the stack that each call takes, beside the header's figures
+	@tools/x86-64 compile target/stack tools/stack.c $(LIBRARY)
+	@tools/x86-64 run target/stack
 
 bench: cargo library ## calls a second beside the second program; instructions by callgrind beside their bars (on x86-64)
 	@tools/x86-64 here || { echo "not an x86-64 machine: the library runs under an emulator here, and what is measured would say nothing"; exit 1; }

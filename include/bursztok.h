@@ -18,10 +18,11 @@
  *   The library keeps no pointer, allocates nothing and holds no state between calls, so any calls
  *   may run on several threads at once, as long as none writes to memory that another uses.
  *
- *   Stack that a call takes at most, in bytes, its arguments included, the same for all sets
- *   (measured by painting, x86-64, rounded up to hundreds):
- *     respond 15,700    rebuild 8,800    commitment 7,700    key test 7,700
- *     read 3,000        write 1,300      each other call under 400
+ *   The stack that a call takes at most, in bytes, is BURSZTOK_STACK_RESPOND and so on below: the
+ *   return address and the stacked arguments are included, and it is the same for all sets. The
+ *   figures are measured, by painting, and the gate fails where a call takes more. They hold for
+ *   the archive as it is built; what the C library's memcpy and memset take themselves is seen
+ *   as it is on the machine that measures, and what the loader takes to find them is not seen.
  *
  * ANSWERS
  *
@@ -101,6 +102,16 @@ extern "C" {
 #define BURSZTOK_LIST 39
 /* The length of the longest record. */
 #define BURSZTOK_RECORD 1638
+
+/* The stack that a call takes at most, in bytes: see STATE, THREADS, STACK. */
+#define BURSZTOK_STACK_RESPOND 11300
+#define BURSZTOK_STACK_KEY_TEST 5800
+#define BURSZTOK_STACK_REBUILD 3900
+#define BURSZTOK_STACK_READ 3000
+#define BURSZTOK_STACK_COMMITMENT 2800
+#define BURSZTOK_STACK_WRITE 1300
+/* Each other call. */
+#define BURSZTOK_STACK_OTHER 200
 
 /* The numbers that come back: see ANSWERS. */
 enum bursztok_number {

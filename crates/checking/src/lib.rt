@@ -52,9 +52,8 @@ fn restore(s: Set, a: &[u16], z1: &[i16], z2: &[i8], list: &[u16], out: &mut [u1
 {
     let mut marked = [0i16; Set::DIMENSION];
     mark(list, &mut marked);
-    let mut w = [0u32; Set::DIMENSION];
-    commitment::make_sums(a, z1, &marked, &mut w);
-    restore_all(s, &w, z2, out);
+    commitment::make_sums(a, z1, &marked, out);
+    restore_all(s, out, z2);
 }
 
 // 12289 at each listed place of a vector of zeros.
@@ -70,15 +69,16 @@ fn mark(list: &[u16], out: &mut [i16])
     }
 }
 
-fn restore_all(s: Set, w: &[u32], z2: &[i8], out: &mut [u16])
-    requires { ⌜ (length (now w) ≡ dimension) × (length (now z2) ≡ dimension) × (length (now out) ≡ dimension) ⌝ }
+// The answer at each place, in w's place.
+fn restore_all(s: Set, w: &mut [u16], z2: &[i8])
+    requires { ⌜ (length (now w) ≡ dimension) × (length (now z2) ≡ dimension) ⌝ }
     requires { ⌜ isReduced (now w) × ((k : ℕ) → natAbs (getD (now z2) k (pos 0)) < pOf s) ⌝ }
-    ensures { λ _. ⌜ now (out .exit) ≡ zipWith (restored s) (now (w .entry)) (now (z2 .entry)) ⌝ }
+    ensures { λ _. ⌜ now (w .exit) ≡ zipWith (restored s) (now (w .entry)) (now (z2 .entry)) ⌝ }
 {
     let d = s.d();
     let p = s.p();
     for i in 0..Set::DIMENSION {
-        out[i] = rounding::restored(s, d, p, w[i], z2[i]);
+        w[i] = rounding::restored(s, d, p, w[i] as u32, z2[i]);
     }
 }
 

@@ -51,39 +51,37 @@ fn commit(s: Set, a: &[u16], y1: &[i16], y2: &[i16], out: &mut [u16])
     requires { ⌜ (length (now a) ≡ dimension) × (length (now y1) ≡ dimension) × (length (now y2) ≡ dimension) × (length (now out) ≡ dimension) ⌝ }
     ensures { λ _. ⌜ now (out .exit) ≡ committed s (now (a .entry)) (now (y1 .entry)) (now (y2 .entry)) ⌝ }
 {
-    let mut u = [0u32; Set::DIMENSION];
-    make_sums(a, y1, y2, &mut u);
-    round(s, &u, out);
+    make_sums(a, y1, y2, out);
+    round(s, out);
 }
 
-// u = 12288 t + y2 modulo 24578, where t = a times y1 modulo q.
-pub fn make_sums(a: &[u16], y1: &[i16], y2: &[i16], u: &mut [u32])
+// u = 12288 t + y2 modulo 24578, where t = a times y1 modulo q is made in u's place.
+pub fn make_sums(a: &[u16], y1: &[i16], y2: &[i16], u: &mut [u16])
     requires { ⌜ (length (now a) ≡ dimension) × (length (now y1) ≡ dimension) × (length (now y2) ≡ dimension) × (length (now u) ≡ dimension) ⌝ }
     ensures { λ _. ⌜ now (u .exit) ≡ sums (now (a .entry)) (now (y1 .entry)) (now (y2 .entry)) ⌝ }
 {
-    let mut t = [0u16; Set::DIMENSION];
-    ring::key_product(a, y1, &mut t);
-    add_sums(&t, y2, u);
+    ring::key_product(a, y1, u);
+    add_sums(u, y2);
 }
 
-// 12288 t + y modulo 24578, place by place.
-pub fn add_sums(t: &[u16], y: &[i16], u: &mut [u32])
-    requires { ⌜ (length (now t) ≡ dimension) × (length (now y) ≡ dimension) × (length (now u) ≡ dimension) ⌝ }
-    ensures { λ _. ⌜ now (u .exit) ≡ zipWith summed (now (t .entry)) (now (y .entry)) ⌝ }
+// 12288 t + y modulo 24578, place by place, in t's place.
+pub fn add_sums(t: &mut [u16], y: &[i16])
+    requires { ⌜ (length (now t) ≡ dimension) × (length (now y) ≡ dimension) ⌝ }
+    ensures { λ _. ⌜ now (t .exit) ≡ zipWith summed (now (t .entry)) (now (y .entry)) ⌝ }
 {
     for i in 0..Set::DIMENSION {
-        u[i] = rounding::sum(t[i], y[i]);
+        t[i] = rounding::sum(t[i], y[i]);
     }
 }
 
-// The upper digits of u. An entry below p fits.
-fn round(s: Set, u: &[u32], out: &mut [u16])
-    requires { ⌜ (length (now u) ≡ dimension) × (length (now out) ≡ dimension) × isReduced (now u) ⌝ }
-    ensures { λ _. ⌜ now (out .exit) ≡ map (upper s) (now (u .entry)) ⌝ }
+// The upper digits of u, in its place. An entry below p fits.
+fn round(s: Set, u: &mut [u16])
+    requires { ⌜ (length (now u) ≡ dimension) × isReduced (now u) ⌝ }
+    ensures { λ _. ⌜ now (u .exit) ≡ map (upper s) (now (u .entry)) ⌝ }
 {
     let d = s.d();
     let p = s.p();
     for i in 0..Set::DIMENSION {
-        out[i] = rounding::upper_digits(s, d, p, u[i]) as u16;
+        u[i] = rounding::upper_digits(s, d, p, u[i] as u32) as u16;
     }
 }

@@ -8,6 +8,7 @@ use native.Mathlib.Omega.{arith}
 use lib.IntN.{ℤ, pos, natAbs}
 use lib.ListN.{length, getD}
 use Rattle.laws.specs.Lists.{every, zipWith}
+use Rattle.laws.proofs.Bounds.{le-square}
 use Rattle.laws.proofs.Chain.{and-left, and-right}
 use Rattle.sets.specs.declared.Set.{Set}
 use Rattle.sets.specs.Numbers.{dimension, maskLimit, kappaOf, keyLimitOf}
@@ -43,3 +44,7 @@ pub trial-fits : (s : Set) (n1 n2 q1 q2 : ℕ) → n1 ≤ (maskLimit + 5 * kappa
 trial-fits s n1 n2 q1 q2 h1 h2 h =
     let b = maskLimit + 5 * kappaOf s in
     omega (arith, mul-add b q1 q2, mul-le-mul-left b h, second-trial s)
+
+-- and the sum that the second trial takes of y and v fits, with the squared length of v
+pub trial-sums : (s : Set) (n1 n2 q1 q2 : ℕ) → n1 ≤ maskLimit * q1 → n2 ≤ maskLimit * q2 → q1 + q2 ≤ kappaOf s * keyLimitOf s → n1 + n2 + (q1 + q2) < 2 ^ 30
+trial-sums s n1 n2 q1 q2 h1 h2 h = omega (arith, mul-le-mul-left (keyLimitOf s) (le-square (kappaOf s)), second-trial s)

@@ -3,12 +3,12 @@
 // - Set 1, f = 1, g = 0, masks zero, list 0 .. 22: v is -1 at places 0 .. 22 of both halves, squared length 46. The first trial is of 17,779, the second of 92.
 ghost use mathlib.Core.Path.{_≡_};
 ghost use mathlib.Core.Bool.{true};
-ghost use Prim.Native.Nat.{ℕ, _+_, _*_, _^_, _<_, _≤_};
-ghost use lib.IntN.{pos, natAbs};
-ghost use lib.ListN.{length, getD};
+ghost use Prim.Native.Nat.{_+_, _*_, _^_, _<_, _≤_};
+ghost use lib.ListN.{length};
 ghost use Rattle.laws.specs.Lists.{every};
 ghost use Rattle.sets.specs.Numbers.{dimension, listLimit, kappaOf, keyLimitOf};
 ghost use Rattle.vectors.specs.Vectors.{within, squares};
+ghost use Rattle.vectors.specs.Pairs.{pair, squaresPair};
 ghost use Rattle.vectors.specs.Places.{properList};
 use libc::STDOUT_FILENO;
 use sets::Set;
@@ -66,26 +66,24 @@ fn choose(s: Set, s1: &[i16], s2: &[i16], list: &[u16])
     show(s, &v1, &v2);
 }
 
-// z is v: the masks are zero, and the sign bit is 0.
+// The masks are zero, and the sign bit is 0.
 fn show(s: Set, v1: &[i16], v2: &[i16])
     requires { ⌜ (length (now v1) ≡ dimension) × (length (now v2) ≡ dimension) × (squares (now v1) + squares (now v2) ≤ kappaOf s * keyLimitOf s) ⌝ }
-    requires { ⌜ ((k : ℕ) → natAbs (getD (now v1) k (pos 0)) ≤ kappaOf s * 5) × ((k : ℕ) → natAbs (getD (now v2) k (pos 0)) ≤ kappaOf s * 5) ⌝ }
 {
     let kappa = s.kappa();
     print_half(b"  v1", v1, kappa);
     print_half(b"  v2", v2, kappa);
-    print_number(b"  squared length of v: ", squared_length(v1, v2));
-    print_number(b"  first trial: ", masking::first_trial(s, v1, v2) as u64);
-    print_number(
-        b"  second trial: ",
-        masking::second_trial(v1, v2, v1, v2) as u64,
-    );
+    let squared = masking::squared_length(v1, v2);
+    print_number(b"  squared length of v: ", squared);
+    print_number(b"  first trial: ", masking::first_trial(s, squared) as u64);
+    print_number(b"  second trial: ", second_trial(v1, v2, squared) as u64);
 }
 
-fn squared_length(v1: &[i16], v2: &[i16]) -> u64
-    requires { ⌜ (length (now v1) ≡ dimension) × (length (now v2) ≡ dimension) × (squares (now v1) + squares (now v2) < 2 ^ 31) ⌝ }
+fn second_trial(v1: &[i16], v2: &[i16], squared: u64) -> u32
+    requires { ⌜ (length (now v1) ≡ dimension) × (length (now v2) ≡ dimension) × (squared ≡ squaresPair (pair (now v1) (now v2))) × (squared < 2 ^ 30) ⌝ }
 {
-    vectors::squared_length(v1) + vectors::squared_length(v2)
+    let masks = [0i16; Set::DIMENSION];
+    masking::second_trial(&masks, &masks, v1, v2, squared, false)
 }
 
 // ---- what is printed

@@ -1,15 +1,20 @@
--- One layer of the transform, as the code makes it: the split, and each half by itself. And what the table holds.
+-- One layer of the transform, as the code makes it: the split, and each half by itself. And what the table and the roots hold.
 -- Assumes nothing.
 use mathlib.Core.Path.{_≡_, refl, ap, ap₂, sym, _∙_}
+use mathlib.Core.Bool.{Bool, true, _&&_}
 use mathlib.Core.List.{List, _++_}
-use Prim.Native.Nat.{ℕ, zero, suc, _+_, _-_, _/_, _<_, _≤_}
+use Prim.Native.Nat.{ℕ, zero, suc, _+_, _*_, _-_, _/_, _<_, _≤_}
+use native.Mathlib.Decide.{decLt}
 use native.Mathlib.Nat.{not-suc-le-zero}
 use native.Mathlib.Omega.{arith}
-use lib.ListN.{length, take, drop, getD}
-use lib.Seq.{take-at, drop-at}
+use borrow.Author.Tests.{eqb-true}
+use lib.Dec.{eqb}
+use lib.ListN.{length, take, drop, getD, set as update}
+use lib.Seq.{take-at, drop-at, getD-set-same, getD-set-other}
+use Rattle.laws.proofs.Chain.{and-left, and-right}
 use Rattle.laws.proofs.Entries.{length-tabulate, getD-tabulate}
 use Rattle.sets.specs.Numbers.{modulus}
-use Rattle.ring.specs.Powers.{power, Powers}
+use Rattle.ring.specs.Powers.{power, Powers, root, Rooted, Roots, aligned}
 use Rattle.ring.specs.Transform.{Within, low, high, size, remainders, joined, convolution}
 use Rattle.ring.proofs.Products.{length-low}
 use Rattle.ring.proofs.Spectra.{within-low, within-high}
@@ -25,8 +30,57 @@ pub power-at : (t : List ℕ) → Powers t → (i : ℕ) → i < 1024 → getD t
 unfolding Powers
 power-at t p i h = ap (λ (l : List ℕ). getD l i 0) p ∙ getD-tabulate power 1024 i 0 h
 
-pub power-small : (t : List ℕ) → Powers t → (i : ℕ) → i < 1024 → getD t i 0 < modulus
-power-small t p i h = omega (arith, power-at t p i h, power-le i)
+-- ---- the roots
+
+pub rooted-none : (l : List ℕ) → Rooted 0 l
+unfolding Rooted
+rooted-none l k h = absurd (not-suc-le-zero h)
+
+-- no more of them
+pub rooted-le : (l : List ℕ) (m n : ℕ) → n ≤ m → Rooted m l → Rooted n l
+unfolding Rooted
+rooted-le l m n h so k b = so k (omega arith)
+
+-- one root more
+pub rooted-more : (l : List ℕ) (n x : ℕ) → n < length l → x ≡ root n → Rooted n l → Rooted (n + 1) (update l n x)
+unfolding Rooted
+rooted-more l n x h e so k b = pick (decLt k n)
+  where
+    pick : Dec (k < n) → getD (update l n x) k 0 ≡ root k
+    pick (yes before) = getD-set-other l n k x 0 (λ same. omega arith) ∙ so k before
+    pick (no others) =
+        let last : n ≡ k = omega arith in
+        ap (λ (j : ℕ). getD (update l n x) j 0) (sym last) ∙ getD-set-same l n x 0 h ∙ e ∙ ap root last
+
+pub all-rooted : (n : ℕ) (l : List ℕ) → length l ≡ 128 → 128 ≤ n → Rooted n l → Roots l
+unfolding Rooted Roots
+all-rooted n l e h so = (e, λ k b. so k (omega arith))
+
+pub length-roots : (t : List ℕ) → Roots t → length t ≡ 128
+unfolding Roots
+length-roots t p = p .0
+
+-- the root whose exponent is d
+pub root-at : (t : List ℕ) → Roots t → (d : ℕ) → d < 1024 → 8 * (d / 8) ≡ d → getD t (d / 8) 0 ≡ power d
+unfolding Rooted Roots
+root-at t p d h m = p .1 (d / 8) (omega arith) ∙ ap power m
+
+pub root-small : (t : List ℕ) → Roots t → (i : ℕ) → i < 128 → getD t i 0 < modulus
+unfolding Rooted Roots
+root-small t p i h = omega (arith, p .1 i h, power-le (8 * i))
+
+-- what a split of aligned exponents takes and leaves
+pub aligned-split : (k e : ℕ) → 0 < k → aligned k e ≡ true
+    → (8 * (e / 2 / 8) ≡ e / 2) × (aligned (k - 1) (e / 2) ≡ true) × (aligned (k - 1) (e / 2 + 512) ≡ true)
+unfolding aligned
+aligned-split zero e p o = absurd (not-suc-le-zero p)
+aligned-split (suc k) e p o =
+    let d : suc k - 1 ≡ k = omega arith in
+    let here = eqb (8 * (e / 2 / 8)) (e / 2) in
+    let lower = aligned k (e / 2) in
+    let upper = aligned k (e / 2 + 512) in
+    let rest : lower && upper ≡ true = and-right here (lower && upper) o in
+    rw d (eqb-true (8 * (e / 2 / 8)) (e / 2) (and-left here (lower && upper) o), and-left lower upper rest, and-right lower upper rest)
 
 -- ---- sizes
 

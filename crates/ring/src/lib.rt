@@ -2,6 +2,7 @@
 mod table;
 
 ghost use mathlib.Core.Path.{_≡_};
+ghost use mathlib.Core.Bool.{true};
 ghost use mathlib.Core.List.{_∷_, _++_, map};
 ghost use Prim.Native.Nat.{_+_, _*_, _-_, _/_, _%_, _<_, _≤_};
 ghost use lib.ListN.{length, getD, take, drop};
@@ -10,7 +11,7 @@ ghost use Rattle.laws.specs.Lists.{zipWith};
 ghost use Rattle.sets.specs.Numbers.{dimension, modulus};
 ghost use Rattle.polynomials.specs.Field.{add, mul, productModulo};
 ghost use Rattle.polynomials.specs.Product.{product};
-ghost use Rattle.ring.specs.Powers.{Powers};
+ghost use Rattle.ring.specs.Powers.{Powers, Rooted, Roots, aligned};
 ghost use Rattle.ring.specs.Transform.{sub, Within, low, high, size, remainders, spectrumOf, joined, convolution};
 use sets::Set;
 use table::POWERS;
@@ -24,13 +25,20 @@ const THRICE: i32 = 3 * (Set::MODULUS as i32);
 // 1 divided by 64, modulo q.
 const INVERSE: u16 = 12097;
 
-// The product of the key a and z. One working vector lives beside out, which serves as the other: the spectrum. The table is laid out on the stack too.
+// The powers that the transform takes, and how far apart their exponents are.
+const ROOTS: usize = 128;
+
+const APART: usize = 8;
+
+const ROW: usize = 16;
+
+// The product of the key a and z. One working vector lives beside out, which serves as the other: the spectrum.
 pub fn key_product(a: &[u16], z: &[i16], out: &mut [u16])
     requires { ⌜ (length (now a) ≡ dimension) × (length (now z) ≡ dimension) × (length (now out) ≡ dimension) ⌝ }
     ensures { λ _. ⌜ now (out .exit) ≡ product (now (a .entry)) (now (z .entry)) ⌝ }
 {
     let mut spectrum = [0u16; Set::DIMENSION];
-    let table = powers();
+    let table = roots();
     transform_by(a, &mut spectrum, &table);
     multiply_by(a, &spectrum, z, out, &table);
 }
@@ -40,7 +48,7 @@ pub fn transform_key(a: &[u16], spectrum: &mut [u16])
     requires { ⌜ (length (now a) ≡ dimension) × (length (now spectrum) ≡ dimension) ⌝ }
     ensures { λ _. ⌜ now (spectrum .exit) ≡ spectrumOf (now (a .entry)) ⌝ }
 {
-    let table = powers();
+    let table = roots();
     transform_by(a, spectrum, &table);
 }
 
@@ -49,27 +57,62 @@ pub fn multiply(a: &[u16], spectrum: &[u16], z: &[i16], out: &mut [u16])
     requires { ⌜ (length (now a) ≡ dimension) × (length (now z) ≡ dimension) × (length (now out) ≡ dimension) × (now spectrum ≡ spectrumOf (now a)) ⌝ }
     ensures { λ _. ⌜ now (out .exit) ≡ product (now (a .entry)) (now (z .entry)) ⌝ }
 {
-    let table = powers();
+    let table = roots();
     multiply_by(a, spectrum, z, out, &table);
 }
 
-// ---- the same with the table, which is laid out in memory once a product
+// ---- the same with the roots, which are laid out in memory once a product
 
-fn transform_by(a: &[u16], spectrum: &mut [u16], powers: &[u16])
-    requires { ⌜ (length (now a) ≡ dimension) × (length (now spectrum) ≡ dimension) × Powers (now powers) ⌝ }
+fn transform_by(a: &[u16], spectrum: &mut [u16], roots: &[u16])
+    requires { ⌜ (length (now a) ≡ dimension) × (length (now spectrum) ≡ dimension) × Roots (now roots) ⌝ }
     ensures { λ _. ⌜ now (spectrum .exit) ≡ spectrumOf (now (a .entry)) ⌝ }
 {
     residues(spectrum, a);
-    decompose(spectrum, 6, Set::DIMENSION, powers);
+    decompose(spectrum, 6, Set::DIMENSION, roots);
 }
 
-fn multiply_by(a: &[u16], spectrum: &[u16], z: &[i16], out: &mut [u16], powers: &[u16])
-    requires { ⌜ (length (now a) ≡ dimension) × (length (now z) ≡ dimension) × (length (now out) ≡ dimension) × (now spectrum ≡ spectrumOf (now a)) × Powers (now powers) ⌝ }
+fn multiply_by(a: &[u16], spectrum: &[u16], z: &[i16], out: &mut [u16], roots: &[u16])
+    requires { ⌜ (length (now a) ≡ dimension) × (length (now z) ≡ dimension) × (length (now out) ≡ dimension) × (now spectrum ≡ spectrumOf (now a)) × Roots (now roots) ⌝ }
     ensures { λ _. ⌜ now (out .exit) ≡ product (now (a .entry)) (now (z .entry)) ⌝ }
 {
     signed_residues(out, z);
-    convolve(out, spectrum, 6, Set::DIMENSION, powers);
+    convolve(out, spectrum, 6, Set::DIMENSION, roots);
     rescale(out);
+}
+
+// The roots, each of them an entry of the table.
+fn roots() -> [u16; ROOTS]
+    ensures { λ r. ⌜ Roots r ⌝ }
+{
+    let table = powers();
+    let mut taken = [0u16; ROOTS];
+    take_roots(&table, &mut taken);
+    taken
+}
+
+// In rows of 16: these two loops the compiler unrolls whole, so that it writes the roots at once and lays out no table. One loop of 128 it does not, and 2,048
+// bytes of stack go to a table of which each eighth entry is read.
+fn take_roots(powers: &[u16], roots: &mut [u16])
+    requires { ⌜ Powers (now powers) × (length (now roots) ≡ 128) ⌝ }
+    ensures { λ _. ⌜ Roots (now (roots .exit)) ⌝ }
+{
+    let mut i = 0;
+    while i < ROOTS {
+        take_row(powers, roots, i);
+        i += ROW;
+    }
+}
+
+// The roots from place i on, a row of them, where those before it are there.
+fn take_row(powers: &[u16], roots: &mut [u16], i: usize)
+    requires { ⌜ Powers (now powers) × (length (now roots) ≡ 128) × (i + 16 ≤ 128) × Rooted i (now roots) ⌝ }
+    ensures { λ _. ⌜ Rooted (i + 16) (now (roots .exit)) ⌝ }
+{
+    let mut j = 0;
+    while j < ROW {
+        roots[i + j] = powers[APART * (i + j)];
+        j += 1;
+    }
 }
 
 // The table, whose rule is proved here once.
@@ -126,48 +169,48 @@ fn rescale(s: &mut [u16])
 // ---- the transform
 
 // s, of size k, taken apart into its remainders of 8 coefficients, modulo x^(size k) - 49^e. Of 16 coefficients one split is all.
-fn decompose(s: &mut [u16], k: usize, e: usize, powers: &[u16])
-    requires { ⌜ (0 < k) × (length (now s) ≡ size k) × (e < dimension + dimension) × Powers (now powers) × Within (modulus - 1) (now s) ⌝ }
+fn decompose(s: &mut [u16], k: usize, e: usize, roots: &[u16])
+    requires { ⌜ (0 < k) × (length (now s) ≡ size k) × (e < dimension + dimension) × Roots (now roots) × Within (modulus - 1) (now s) × (aligned k e ≡ true) ⌝ }
     ensures { λ _. ⌜ now (s .exit) ≡ remainders k e (now (s .entry)) ⌝ }
 {
     if 1 < k {
         let h = s.len() / 2;
         let f = e / 2;
-        split(s, h, powers[f]);
-        decompose(&mut s[..h], k - 1, f, powers);
-        decompose(&mut s[h..], k - 1, f + Set::DIMENSION, powers);
+        split(s, h, roots[f / APART]);
+        decompose(&mut s[..h], k - 1, f, roots);
+        decompose(&mut s[h..], k - 1, f + Set::DIMENSION, roots);
     } else {
-        split(s, 8, powers[e / 2]);
+        split(s, 8, roots[e / 2 / APART]);
     }
 }
 
 // s times what f are the remainders of, modulo x^(size k) - 49^e, and doubled k times.
-fn convolve(s: &mut [u16], f: &[u16], k: usize, e: usize, powers: &[u16])
-    requires { ⌜ (0 < k) × (length (now s) ≡ size k) × (length (now f) ≡ size k) × (e < dimension + dimension) × Powers (now powers) × Within (modulus - 1) (now s) × Within (modulus - 1) (now f) ⌝ }
+fn convolve(s: &mut [u16], f: &[u16], k: usize, e: usize, roots: &[u16])
+    requires { ⌜ (0 < k) × (length (now s) ≡ size k) × (length (now f) ≡ size k) × (e < dimension + dimension) × Roots (now roots) × Within (modulus - 1) (now s) × Within (modulus - 1) (now f) × (aligned k e ≡ true) ⌝ }
     ensures { λ _. ⌜ now (s .exit) ≡ convolution k e (now (f .entry)) (now (s .entry)) ⌝ }
 {
     if 1 < k {
         let h = s.len() / 2;
         let d = e / 2;
-        split(s, h, powers[d]);
-        convolve(&mut s[..h], &f[..h], k - 1, d, powers);
-        convolve(&mut s[h..], &f[h..], k - 1, d + Set::DIMENSION, powers);
-        join(s, h, powers[Set::DIMENSION - d]);
+        split(s, h, roots[d / APART]);
+        convolve(&mut s[..h], &f[..h], k - 1, d, roots);
+        convolve(&mut s[h..], &f[h..], k - 1, d + Set::DIMENSION, roots);
+        join(s, h, roots[(Set::DIMENSION - d) / APART]);
     } else {
-        two_blocks(s, f, e, powers);
+        two_blocks(s, f, e, roots);
     }
 }
 
 // The same where k is 1: the halves are blocks.
-fn two_blocks(s: &mut [u16], f: &[u16], e: usize, powers: &[u16])
-    requires { ⌜ (length (now s) ≡ 16) × (length (now f) ≡ 16) × (e < dimension + dimension) × Powers (now powers) × Within (modulus - 1) (now s) × Within (modulus - 1) (now f) ⌝ }
+fn two_blocks(s: &mut [u16], f: &[u16], e: usize, roots: &[u16])
+    requires { ⌜ (length (now s) ≡ 16) × (length (now f) ≡ 16) × (e < dimension + dimension) × Roots (now roots) × Within (modulus - 1) (now s) × Within (modulus - 1) (now f) × (aligned 1 e ≡ true) ⌝ }
     ensures { λ _. ⌜ now (s .exit) ≡ convolution 1 e (now (f .entry)) (now (s .entry)) ⌝ }
 {
     let d = e / 2;
-    split(s, 8, powers[d]);
-    block(&mut s[..8], &f[..8], powers[d]);
-    block(&mut s[8..], &f[8..], powers[d + Set::DIMENSION]);
-    join(s, 8, powers[Set::DIMENSION - d]);
+    split(s, 8, roots[d / APART]);
+    block(&mut s[..8], &f[..8], roots[d / APART]);
+    block(&mut s[8..], &f[8..], roots[(d + Set::DIMENSION) / APART]);
+    join(s, 8, roots[(Set::DIMENSION - d) / APART]);
 }
 
 // One layer: s modulo x^h - w, then s modulo x^h + w.

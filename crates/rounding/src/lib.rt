@@ -51,11 +51,11 @@ fn lift(y: i16) -> u32
     (y as i32 + LIFT) as u32
 }
 
-// 12288 t + y modulo 24578.
-pub fn sum(t: u16, y: i16) -> u32
+// 12288 t + y modulo 24578, which fits 16 bits.
+pub fn sum(t: u16, y: i16) -> u16
     ensures { λ r. ⌜ r ≡ summed t y ⌝ }
 {
-    (Set::FACTOR * (t as u32) + lift(y)) % Set::TWICE_MODULUS
+    ((Set::FACTOR * (t as u32) + lift(y)) % Set::TWICE_MODULUS) as u16
 }
 
 // u - z modulo 24578.

@@ -228,8 +228,8 @@ fn sign_with(
         &spectrum,
         y1,
         y2,
-        &v1,
-        &v2,
+        &mut v1,
+        &mut v2,
         sign,
         thresholds,
         words,
@@ -238,15 +238,15 @@ fn sign_with(
     )
 }
 
-// z = y + v or y - v, and the walk: refusals 8 or 9.
+// The walk: refusals 8 or 9. z = y + v or y - v is made in v's place.
 fn draw_for(
     s: Set,
     a: &[u16],
     spectrum: &[u16],
     y1: &[i16],
     y2: &[i16],
-    v1: &[i16],
-    v2: &[i16],
+    v1: &mut [i16],
+    v2: &mut [i16],
     sign: bool,
     thresholds: &[u64],
     words: &[u64],
@@ -268,12 +268,11 @@ fn draw_for(
         })
         (pair (now (v1 .entry)) (now (v2 .entry))) ⌝ }
 {
-    let mut w1 = [0i16; Set::DIMENSION];
-    let mut w2 = [0i16; Set::DIMENSION];
-    masking::mask(y1, v1, sign, &mut w1);
-    masking::mask(y2, v2, sign, &mut w2);
-    let first = masking::first_trial(s, v1, v2);
-    let second = masking::second_trial(&w1, &w2, v1, v2);
+    let squared = masking::squared_length(v1, v2);
+    let first = masking::first_trial(s, squared);
+    let second = masking::second_trial(y1, y2, v1, v2, squared, sign);
+    masking::mask(y1, v1, sign);
+    masking::mask(y2, v2, sign);
     match draw::walk(first, second, words, thresholds) {
         Ending::OutOfWords => Response {
             outcome: Outcome::WordMissing,
@@ -283,7 +282,7 @@ fn draw_for(
             outcome: Outcome::DrawRejected,
             words: taken,
         },
-        Ending::Accepted(taken) => give(s, a, spectrum, y1, y2, &w1, &w2, taken, z1, z2),
+        Ending::Accepted(taken) => give(s, a, spectrum, y1, y2, v1, v2, taken, z1, z2),
     }
 }
 

@@ -14,7 +14,7 @@ use Rattle.laws.proofs.Products.{neg-as, one-*ℤ}
 use Rattle.laws.proofs.Solver.{v, k, _⊕_, _⊖_, _⊗_, ring}
 use Rattle.vectors.specs.Vectors.{squares, inner}
 
-square-is : (a : ℤ) → pos (natAbs a * natAbs a) ≡ a *ℤ a
+pub square-is : (a : ℤ) → pos (natAbs a * natAbs a) ≡ a *ℤ a
 square-is (pos n) = refl
 square-is (negsuc n) = refl
 

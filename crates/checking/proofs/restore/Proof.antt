@@ -13,14 +13,8 @@ mark-requires c κs = search needs
 slice-aggregate-make-sums : tie.Need-slice-aggregate-make-sums
 slice-aggregate-make-sums c = search needs
 
-slice-aggregate-make-sums-2 : tie.Need-slice-aggregate-make-sums-2
-slice-aggregate-make-sums-2 c = search needs
-
 make-sums-requires : tie.Need-make-sums-requires
 make-sums-requires c κs = search needs
-
-slice-aggregate-restore-all : tie.Need-slice-aggregate-restore-all
-slice-aggregate-restore-all c = search needs
 
 abbrev start : tie.After-restore-all-arg → tie.Start
 start c = c .before .before .before .before .before .before .before .before .before .before .before .before
@@ -28,7 +22,7 @@ start c = c .before .before .before .before .before .before .before .before .bef
 restore-all-requires : tie.Need-restore-all-requires
 restore-all-requires c κs =
     let a = start c .args in
-    ((search needs, search needs, search needs), (rw (c .before .before .before .make-sums .ensures) (sums-reduced (a .a .now) (a .z1 .now) (c .before .before .before .before .before .before .before .mark .last .1 .0)), start c .pre .1 .1))
+    ((search needs, search needs), (rw (c .before .before .before .make-sums .ensures) (sums-reduced (a .a .now) (a .z1 .now) (c .before .before .before .before .before .before .before .mark .last .1 .0)), start c .pre .1 .1))
 
 same-length : tie.Need-same-length
 same-length c = search needs
@@ -44,9 +38,7 @@ restore-spec =
     slice-aggregate-mark
     mark-requires
     slice-aggregate-make-sums
-    slice-aggregate-make-sums-2
     make-sums-requires
-    slice-aggregate-restore-all
     restore-all-requires
     same-length
     returns)

@@ -1,6 +1,6 @@
-use mathlib.Core.Path.{_≡_, sym, ap, _∙_}
+use mathlib.Core.Path.{_≡_, sym, ap₂, _∙_}
 use mathlib.Core.List.{List}
-use Prim.Native.Nat.{ℕ, _-_, _≤_}
+use Prim.Native.Nat.{ℕ, _-_, _<_, _≤_}
 use native.Mathlib.Omega.{arith}
 use borrow.Author.Needs.{needs}
 use lib.Dec.{lit≤}
@@ -9,19 +9,19 @@ use lib.ListN.{length, getD}
 use mir.Syntax.{w8}
 use Rattle.laws.specs.Lists.{zipWith}
 use Rattle.laws.proofs.Entries.{length-zipWith, getD-zipWith}
-use Rattle.laws.proofs.Loops.{Rewritten, start, more, finish}
+use Rattle.laws.proofs.Loops.{Rewritten, start, next-is, more, finish}
 use Rattle.laws.proofs.Machine.{element}
 use Rattle.sets.specs.declared.Set.{Set}
-use Rattle.sets.specs.Numbers.{dimension}
+use Rattle.sets.specs.Numbers.{dimension, twiceModulus}
 use Rattle.rounding.specs.Rounding.{restored}
 use Rattle.checking.proofs.restore_all.Statement.{statement}
 use Rattle.checking.proofs.restore_all.Tie as tie
 
 abbrev Inv-loop : tie.InvT-loop
-Inv-loop s w z2 out₀ d p i₀ out i = (i ≤ dimension) × Rewritten out₀ (zipWith (restored s) w z2) i out
+Inv-loop s w₀ z2 d p i₀ w i = (i ≤ dimension) × Rewritten w₀ (zipWith (restored s) w₀ z2) i w
 
 abbrev μ-loop : tie.MeasureT-loop
-μ-loop s w z2 out₀ d p i₀ out i = dimension - i
+μ-loop s w₀ z2 d p i₀ w i = dimension - i
 
 module _ (c : tie.Start Inv-loop μ-loop) where
   abbrev S : Set
@@ -33,11 +33,17 @@ module _ (c : tie.Start Inv-loop μ-loop) where
   abbrev Z : List ℤ
   Z = c .args .z2 .now
 
-  abbrev O : List ℕ
-  O = c .args .out .now
+  long : length (zipWith (restored S) W Z) ≡ length W
+  long = length-zipWith (restored S) W Z (omega arith)
 
-  long : length (zipWith (restored S) W Z) ≡ length O
-  long = omega (arith, length-zipWith (restored S) W Z (omega arith))
+-- the entry that is restored next is as it was
+old : (l : tie.At-loop Inv-loop μ-loop) → l .loop .i < dimension → getD (l .loop .w) (l .loop .i) 0 ≡ getD (W (l .before .before .before .before)) (l .loop .i) 0
+old l h =
+    let s = l .before .before .before .before in
+    next-is (W s) (zipWith (restored (S s)) (W s) (Z s)) (long s) (l .loop .inv .1) 0 (omega arith)
+
+reduced : (l : tie.At-loop Inv-loop μ-loop) → l .loop .i < dimension → getD (l .loop .w) (l .loop .i) 0 < twiceModulus
+reduced l h = rw (old l h) (l .before .before .before .before .pre .1 .0 (l .loop .i))
 
 d-requires : tie.Need-d-requires Inv-loop μ-loop
 d-requires c κs = search needs
@@ -47,29 +53,32 @@ p-requires c κs = search needs
 
 loop-holds : tie.Need-loop-holds Inv-loop μ-loop
 loop-holds c =
-    let s = c .before .before .before .before in
-    (lit≤ tt, start (O s) (zipWith (restored (S s)) (W s) (Z s)) (long s))
+    let s = c .before .before .before in
+    (lit≤ tt, start (W s) (zipWith (restored (S s)) (W s) (Z s)) (long s))
 
 mul-restored : tie.Need-mul-restored Inv-loop μ-loop
 mul-restored c = omega arith
 
-shared-slice-read-restored : tie.Need-shared-slice-read-restored Inv-loop μ-loop
-shared-slice-read-restored c = omega arith
+slice-read-restored : tie.Need-slice-read-restored Inv-loop μ-loop
+slice-read-restored c = omega arith
 
 shared-slice-copy-out-restored : tie.Need-shared-slice-copy-out-restored Inv-loop μ-loop
 shared-slice-copy-out-restored c = omega arith
 
+cast-restored : tie.Need-cast-restored Inv-loop μ-loop
+cast-restored c = omega (arith, reduced (c .before .before) (omega arith))
+
 restored-requires : tie.Need-restored-requires Inv-loop μ-loop
 restored-requires c κs =
     let l = c .before .before .before in
-    let s = l .before .before .before .before .before in
-    (l .before .before .d .ensures, l .before .p .ensures, s .pre .1 .0 (l .loop .i), rw (element w8 (getD (Z s) (l .loop .i) (pos 0)) (c .restored-arg .given) .back) (s .pre .1 .1 (l .loop .i)))
+    let s = l .before .before .before .before in
+    (l .before .before .d .ensures, l .before .p .ensures, reduced l (omega arith), rw (element w8 (getD (Z s) (l .loop .i) (pos 0)) (c .restored-arg .given) .back) (s .pre .1 .1 (l .loop .i)))
 
-mul-out : tie.Need-mul-out Inv-loop μ-loop
-mul-out c = omega arith
+mul-w : tie.Need-mul-w Inv-loop μ-loop
+mul-w c = omega arith
 
-slice-write-out : tie.Need-slice-write-out Inv-loop μ-loop
-slice-write-out c = omega (arith, c .before .before .before .before .loop .inv .1 .long)
+slice-write-w : tie.Need-slice-write-w Inv-loop μ-loop
+slice-write-w c = omega (arith, c .before .before .before .before .loop .inv .1 .long)
 
 add-i : tie.Need-add-i Inv-loop μ-loop
 add-i c = omega arith
@@ -80,12 +89,12 @@ loop-less c = omega arith
 loop-again : tie.Need-loop-again Inv-loop μ-loop
 loop-again c =
     let l = c .before .before .before .before in
-    let s = l .before .before .before .before .before in
+    let s = l .before .before .before .before in
     let i = l .loop .i in (
       omega arith,
-      more (O s) (zipWith (restored (S s)) (W s) (Z s)) (long s) (l .loop .inv .1) 0 _ (omega arith)
+      more (W s) (zipWith (restored (S s)) (W s) (Z s)) (long s) (l .loop .inv .1) 0 _ (omega arith)
           (c .restored .ensures
-          ∙ ap (restored (S s) (getD (W s) i 0)) (element w8 (getD (Z s) i (pos 0)) (c .before .restored-arg .given) .back)
+          ∙ ap₂ (restored (S s)) (old l (omega arith)) (element w8 (getD (Z s) i (pos 0)) (c .before .restored-arg .given) .back)
           ∙ sym (getD-zipWith (restored (S s)) (W s) (Z s) i 0 (pos 0) 0 (omega arith) (omega arith))),
     )
 
@@ -94,8 +103,8 @@ same-length c = c .before .loop .inv .1 .long
 
 returns : tie.Need-returns Inv-loop μ-loop
 returns c =
-    let s = c .before .before .before .before .before .before in
-    finish (O s) (zipWith (restored (S s)) (W s) (Z s)) (long s) (c .before .loop .inv .1) (omega arith)
+    let s = c .before .before .before .before .before in
+    finish (W s) (zipWith (restored (S s)) (W s) (Z s)) (long s) (c .before .loop .inv .1) (omega arith)
 
 pub restore-all-spec : {M : Type 1} → statement M
 restore-all-spec =
@@ -107,11 +116,12 @@ restore-all-spec =
     p-requires
     loop-holds
     mul-restored
-    shared-slice-read-restored
+    slice-read-restored
+    cast-restored
     shared-slice-copy-out-restored
     restored-requires
-    mul-out
-    slice-write-out
+    mul-w
+    slice-write-w
     add-i
     loop-less
     loop-again

@@ -63,6 +63,9 @@ mul-dagger-2 c = omega arith
 shared-slice-copy-out-dagger : tie.Need-shared-slice-copy-out-dagger Inv-loop μ-loop
 shared-slice-copy-out-dagger c = omega arith
 
+cast-dagger : tie.Need-cast-dagger Inv-loop μ-loop
+cast-dagger c = let l = c .before .before in omega (arith, l .before .before .before .before .pre .3 (l .loop .i))
+
 dagger-requires : tie.Need-dagger-requires Inv-loop μ-loop
 dagger-requires c κs =
     let l = c .before .before .before in
@@ -109,6 +112,7 @@ make-daggers-spec =
     loop-holds
     mul-dagger
     shared-slice-read-dagger
+    cast-dagger
     mul-dagger-2
     shared-slice-copy-out-dagger
     dagger-requires

@@ -13,9 +13,6 @@ multiply-requires c κs = search needs
 slice-aggregate-add-sums : tie.Need-slice-aggregate-add-sums
 slice-aggregate-add-sums c = search needs
 
-slice-aggregate-add-sums-2 : tie.Need-slice-aggregate-add-sums-2
-slice-aggregate-add-sums-2 c = search needs
-
 add-sums-requires : tie.Need-add-sums-requires
 add-sums-requires c κs = search needs
 
@@ -40,7 +37,6 @@ shorten-spec =
     slice-aggregate-multiply
     multiply-requires
     slice-aggregate-add-sums
-    slice-aggregate-add-sums-2
     add-sums-requires
     slice-aggregate-make-daggers
     make-daggers-requires

@@ -6,9 +6,7 @@ use lib.IntN.{ℤ}
 use Rattle.sets.specs.Numbers.{kappaOf, keyLimitOf}
 use Rattle.vectors.specs.Vectors.{squares}
 use Rattle.vectors.proofs.Rising.{proper-places}
-use Rattle.vectors.specs.Pairs.{pair}
-use Rattle.choices.proofs.Pairs.{Within}
-use Rattle.masking.proofs.Chosen.{few-places, chosen-short, chosen-within}
+use Rattle.masking.proofs.Chosen.{few-places, chosen-short}
 use Rattle.response_points.proofs.choose.Statement.{statement}
 use Rattle.response_points.proofs.choose.Tie as tie
 
@@ -39,11 +37,6 @@ module _ (c : tie.After-choose) where
       chosen-short (start .args .s) (start .args .s1 .now) (start .args .s2 .now) (start .args .list .now) (start .pre .0 .0) (start .pre .0 .1) (start .pre .1 .1) v1 v2
       (c .choose .ensures) (start .pre .1 .0)
 
-  small : Within (kappaOf (start .args .s) * 5) (pair v1 v2)
-  small =
-      chosen-within (start .args .s) (start .args .s1 .now) (start .args .s2 .now) (start .args .list .now) (start .pre .0 .0) (start .pre .0 .1) (start .pre .1 .1) v1 v2
-      (c .choose .ensures) (start .pre .0 .2) (start .pre .0 .3)
-
 slice-aggregate-show : tie.Need-slice-aggregate-show
 slice-aggregate-show c = search needs
 
@@ -53,7 +46,7 @@ slice-aggregate-show-2 c = search needs
 show-requires : tie.Need-show-requires
 show-requires c κs =
     let k = c .before .before .before .before in
-    ((search needs, search needs, short k), (small k .first, small k .second))
+    (search needs, search needs, short k)
 
 returns : tie.Need-returns
 returns c = search needs

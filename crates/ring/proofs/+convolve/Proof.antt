@@ -1,7 +1,8 @@
 -- `ring::convolve` meets its contract. The measure is k: the halves are split once less. Assumes nothing.
 use mathlib.Core.Path.{_≡_, ap, ap₂, sym, _∙_}
+use mathlib.Core.Bool.{true}
 use mathlib.Core.List.{List, _++_}
-use Prim.Native.Nat.{ℕ, _<_, _+_, _-_, _/_}
+use Prim.Native.Nat.{ℕ, _<_, _+_, _*_, _-_, _/_}
 use native.Mathlib.Omega.{arith}
 use lib.ListN.{length, take, drop, getD, length-drop}
 use lib.Seq.{length-take-le}
@@ -9,11 +10,12 @@ use borrow.Fn.Kinds.{In}
 use borrow.Fn.PlainCycle.{Measures, is, falls, and}
 use borrow.Rule.Slice.PartMut.{putMid}
 use Rattle.sets.specs.Numbers.{modulus}
+use Rattle.ring.specs.Powers.{power, aligned}
 use Rattle.ring.specs.Transform.{Within, size, convolution, joined}
 use Rattle.ring.proofs.Zips.{within-of, within-append, within-take, within-drop}
 use Rattle.ring.proofs.Spectra.{within-convolution}
 use Rattle.ring.proofs.Halves.{rest-lent, still-two, second-half, both-back, back-two}
-use Rattle.ring.proofs.Layers.{length-powers, power-at, power-small, halved, last-size, within-first, within-second, convolution-layer}
+use Rattle.ring.proofs.Layers.{length-roots, root-at, root-small, aligned-split, halved, last-size, within-first, within-second, convolution-layer}
 use Rattle.ring.proofs.convolve.Reads as convolve
 use Rattle.ring.proofs.convolve.Kinds as kinds
 use Rattle.ring.proofs.+convolve.Lts-convolve as lts
@@ -51,9 +53,9 @@ module _ (t : ℕ) where
     abbrev h : ℕ
     h = length l / 2
 
-    -- the table's entry at an exponent
+    -- the root at an exponent
     abbrev root : ℕ → ℕ
-    root i = getD (start .args .powers .now) i 0
+    root i = getD (start .args .roots .now) (i / 8) 0
 
     halves : (h ≡ size (start .args .k - 1)) × (length l ≡ h + h)
     halves = halved (start .args .k) (length l) (start .pre .1 .0) (start .pre .1 .1)
@@ -70,11 +72,17 @@ module _ (t : ℕ) where
     exponent : start .args .e / 2 < 512
     exponent = omega (arith, start .pre .1 .3)
 
-    root-small : (i : ℕ) → i < 1024 → root i < modulus
-    root-small = power-small (start .args .powers .now) (start .pre .1 .4)
+    lined : (8 * (start .args .e / 2 / 8) ≡ start .args .e / 2) × (aligned (start .args .k - 1) (start .args .e / 2) ≡ true) × (aligned (start .args .k - 1) (start .args .e / 2 + 512) ≡ true)
+    lined = aligned-split (start .args .k) (start .args .e) (start .pre .1 .0) (start .pre .1 .7)
 
-    table-long : length (start .args .powers .now) ≡ 1024
-    table-long = length-powers (start .args .powers .now) (start .pre .1 .4)
+    small : (i : ℕ) → i < 1024 → root i < modulus
+    small i h = root-small (start .args .roots .now) (start .pre .1 .4) (i / 8) (omega arith)
+
+    root-is : (i : ℕ) → i < 1024 → 8 * (i / 8) ≡ i → root i ≡ power i
+    root-is = root-at (start .args .roots .now) (start .pre .1 .4)
+
+    table-long : length (start .args .roots .now) ≡ 128
+    table-long = length-roots (start .args .roots .now) (start .pre .1 .4)
 
   -- once it is split
   module _ (c : lts.After-split (known t) (at t) convolve.Post) where
@@ -142,7 +150,7 @@ module _ (t : ℕ) where
   split-requires : lts.Need-split-requires (known t) (at t) convolve.Post
   split-requires c κs =
       let then = c .before .before in
-      (halves then .1, root-small then _ (omega (arith, exponent then)), start then .pre .1 .5)
+      (halves then .1, small then _ (omega (arith, exponent then)), start then .pre .1 .5)
 
   slice-relend-prefix-convolve : lts.Need-slice-relend-prefix-convolve (known t) (at t) convolve.Post
   slice-relend-prefix-convolve c = omega (arith, two (c .before .before))
@@ -173,6 +181,7 @@ module _ (t : ℕ) where
           start then .pre .1 .4,
           first-small split,
           within-take 12288 (h then) (key then) (start then .pre .1 .6),
+          lined then .1,
         ),
       )
 
@@ -220,6 +229,7 @@ module _ (t : ℕ) where
           start then .pre .1 .4,
           rw (lent first) (second-small split),
           rw (key-lent then) (within-drop 12288 (h then) (key then) (start then .pre .1 .6)),
+          lined then .2,
         ),
       )
 
@@ -235,13 +245,13 @@ module _ (t : ℕ) where
   join-requires : lts.Need-join-requires (known t) (at t) convolve.Post
   join-requires c κs =
       let both = c .before .before .before .before in
-      (back-long both, root-small (then (split (first both))) _ (omega arith), back-small both)
+      (back-long both, small (then (split (first both))) _ (omega arith), back-small both)
 
   two-blocks-requires : lts.Need-two-blocks-requires (known t) (at t) convolve.Post
   two-blocks-requires c κs =
       let start = c .before .before .before .before .before in
       let last = c .before .if1 .left in
-      (last-size _ _ (start .pre .1 .0) last (start .pre .1 .1) .1, last-size _ _ (start .pre .1 .0) last (start .pre .1 .2) .1, start .pre .1 .3, start .pre .1 .4, start .pre .1 .5, start .pre .1 .6)
+      (last-size _ _ (start .pre .1 .0) last (start .pre .1 .1) .1, last-size _ _ (start .pre .1 .0) last (start .pre .1 .2) .1, start .pre .1 .3, start .pre .1 .4, start .pre .1 .5, start .pre .1 .6, ap (λ (k : ℕ). aligned k (start .args .e)) (omega (arith, start .pre .1 .0)) ∙ start .pre .1 .7)
 
   same-length : lts.Need-same-length (known t) (at t) convolve.Post
   same-length c =
@@ -258,8 +268,8 @@ module _ (t : ℕ) where
       let k = start .args .k - 1 in
       convolution-layer (start .args .k) (start .args .e) (h then) (root then (start .args .e / 2)) (root then (512 - start .args .e / 2)) (key then) (l then) (s split) (m first) (n both) (c .before .before .join .last .0)
       (start .pre .1 .0) (halves then .0) (halves then .1)
-      (power-at (start .args .powers .now) (start .pre .1 .4) (start .args .e / 2) (omega (arith, exponent then)))
-      (power-at (start .args .powers .now) (start .pre .1 .4) (512 - start .args .e / 2) (omega arith))
+      (root-is then (start .args .e / 2) (omega (arith, exponent then)) (lined then .0))
+      (root-is then (512 - start .args .e / 2) (omega arith) (omega (arith, lined then .0, exponent then)))
       (split .split .ensures)
       (first .convolve .ensures)
       (both .convolve2 .ensures ∙ ap₂ (convolution k (start .args .e / 2 + 512)) (key-lent then) (lent first))

@@ -1,15 +1,17 @@
 -- `ring::decompose` meets its contract. The measure is k: the halves are split once less. Assumes nothing.
 use mathlib.Core.Path.{_≡_, ap, sym, _∙_}
+use mathlib.Core.Bool.{true}
 use mathlib.Core.List.{List, _++_}
-use Prim.Native.Nat.{ℕ, _<_, _≤_, _+_, _-_, _/_}
+use Prim.Native.Nat.{ℕ, _<_, _≤_, _+_, _*_, _-_, _/_}
 use native.Mathlib.Omega.{arith}
 use lib.ListN.{length, take, drop, getD, length-drop, take-append-drop}
 use lib.Seq.{length-take-le}
 use borrow.Fn.Kinds.{In}
 use borrow.Fn.PlainCycle.{Measures, is, falls, and}
+use Rattle.ring.specs.Powers.{aligned}
 use Rattle.ring.specs.Transform.{Within, size, remainders}
 use Rattle.ring.proofs.Halves.{still-two, second-half, both-back, back-two}
-use Rattle.ring.proofs.Layers.{length-powers, power-at, power-small, halved, last-size, within-first, within-second, remainders-layer, remainders-leaf}
+use Rattle.ring.proofs.Layers.{length-roots, root-at, root-small, aligned-split, halved, last-size, within-first, within-second, remainders-layer, remainders-leaf}
 use Rattle.ring.proofs.decompose.Reads as decompose
 use Rattle.ring.proofs.decompose.Kinds as kinds
 use Rattle.ring.proofs.+decompose.Lts-decompose as lts
@@ -47,6 +49,13 @@ module _ (t : ℕ) where
     exponent : start .args .e / 2 < 1024
     exponent = omega (arith, start .pre .1 .2)
 
+    -- the root that the split takes
+    abbrev w : ℕ
+    w = getD (start .args .roots .now) (start .args .e / 2 / 8) 0
+
+    lined : (8 * (start .args .e / 2 / 8) ≡ start .args .e / 2) × (aligned (start .args .k - 1) (start .args .e / 2) ≡ true) × (aligned (start .args .k - 1) (start .args .e / 2 + 512) ≡ true)
+    lined = aligned-split (start .args .k) (start .args .e) (start .pre .1 .0) (start .pre .1 .5)
+
   -- once it is split
   module _ (c : lts.After-split (known t) (at t) decompose.Post) where
     abbrev then : lts.Then1 (known t) (at t) decompose.Post
@@ -59,10 +68,10 @@ module _ (t : ℕ) where
     two = c .split .kept .0 ∙ halves then .1
 
     first-small : Within 12288 (take (h then) s)
-    first-small = within-first (h then) (getD (start then .args .powers .now) (start then .args .e / 2) 0) (l then) s (halves then .1) (c .split .ensures)
+    first-small = within-first (h then) (w then) (l then) s (halves then .1) (c .split .ensures)
 
     second-small : Within 12288 (drop (h then) s)
-    second-small = within-second (h then) (getD (start then .args .powers .now) (start then .args .e / 2) 0) (l then) s (halves then .1) (c .split .ensures)
+    second-small = within-second (h then) (w then) (l then) s (halves then .1) (c .split .ensures)
 
   -- once its first half is
   module _ (c : lts.After-decompose (known t) (at t) decompose.Post) where
@@ -82,13 +91,13 @@ module _ (t : ℕ) where
   mul-split c = omega arith
 
   shared-slice-read-split : lts.Need-shared-slice-read-split (known t) (at t) decompose.Post
-  shared-slice-read-split c = let start = start (c .before .before) in omega (arith, length-powers (start .args .powers .now) (start .pre .1 .3))
+  shared-slice-read-split c = let start = start (c .before .before) in omega (arith, length-roots (start .args .roots .now) (start .pre .1 .3), start .pre .1 .2)
 
   split-requires : lts.Need-split-requires (known t) (at t) decompose.Post
   split-requires c κs =
       let then = c .before .before in
       let start = start then in
-      (halves then .1, power-small (start .args .powers .now) (start .pre .1 .3) _ (omega (arith, exponent then)), start .pre .1 .4)
+      (halves then .1, root-small (start .args .roots .now) (start .pre .1 .3) _ (omega (arith, exponent then)), start .pre .1 .4)
 
   slice-relend-prefix-decompose : lts.Need-slice-relend-prefix-decompose (known t) (at t) decompose.Post
   slice-relend-prefix-decompose c = omega (arith, two (c .before .before))
@@ -105,7 +114,7 @@ module _ (t : ℕ) where
   decompose-requires c κs =
       let split = c .before .before .before in
       let then = then split in
-      (omega (arith, then .if1 .taken), (omega (arith, then .if1 .taken), length-take-le (h then) (s split) (omega (arith, two split)) ∙ halves then .0, exponent then, start then .pre .1 .3, first-small split))
+      (omega (arith, then .if1 .taken), (omega (arith, then .if1 .taken), length-take-le (h then) (s split) (omega (arith, two split)) ∙ halves then .0, exponent then, start then .pre .1 .3, first-small split, lined then .1))
 
   mul-decompose : lts.Need-mul-decompose (known t) (at t) decompose.Post
   mul-decompose c = omega arith
@@ -132,7 +141,7 @@ module _ (t : ℕ) where
       let then = then split in
       let lent = second-half (h then) (s split) (m first) (two split) (as-long first) in (
         omega (arith, then .if1 .taken),
-        (omega (arith, then .if1 .taken), ap length lent ∙ length-drop (h then) (s split) ∙ omega (arith, two split) ∙ halves then .0, omega (arith, start then .pre .1 .2), start then .pre .1 .3, rw lent (second-small split)),
+        (omega (arith, then .if1 .taken), ap length lent ∙ length-drop (h then) (s split) ∙ omega (arith, two split) ∙ halves then .0, omega (arith, start then .pre .1 .2), start then .pre .1 .3, rw lent (second-small split), lined then .2),
       )
 
   same-length : lts.Need-same-length (known t) (at t) decompose.Post
@@ -149,8 +158,8 @@ module _ (t : ℕ) where
       let start = start then in
       let n = c .before .before .decompose2 .last .0 in
       both-back (h then) (s split) (m first) (two split) (as-long first) n (c .before .before .decompose2 .kept .0)
-      ∙ remainders-layer (start .args .k) (start .args .e) (h then) (getD (start .args .powers .now) (start .args .e / 2) 0) (l then) (s split) (m first) n
-      (start .pre .1 .0) (halves then .0) (halves then .1) (power-at (start .args .powers .now) (start .pre .1 .3) (start .args .e / 2) (exponent then)) (split .split .ensures)
+      ∙ remainders-layer (start .args .k) (start .args .e) (h then) (w then) (l then) (s split) (m first) n
+      (start .pre .1 .0) (halves then .0) (halves then .1) (root-at (start .args .roots .now) (start .pre .1 .3) (start .args .e / 2) (exponent then) (lined then .0)) (split .split .ensures)
       (first .decompose .ensures)
       (c .before .before .decompose2 .ensures ∙ ap (remainders (start .args .k - 1) (start .args .e / 2 + 512)) (second-half (h then) (s split) (m first) (two split) (as-long first)))
 
@@ -166,12 +175,12 @@ module _ (t : ℕ) where
   mul-split-2 c = omega arith
 
   shared-slice-read-split-2 : lts.Need-shared-slice-read-split-2 (known t) (at t) decompose.Post
-  shared-slice-read-split-2 c = let start = start-last (c .before .before) in omega (arith, length-powers (start .args .powers .now) (start .pre .1 .3), start .pre .1 .2)
+  shared-slice-read-split-2 c = let start = start-last (c .before .before) in omega (arith, length-roots (start .args .roots .now) (start .pre .1 .3), start .pre .1 .2)
 
   split-requires-2 : lts.Need-split-requires-2 (known t) (at t) decompose.Post
   split-requires-2 c κs =
       let start = start-last (c .before .before) in
-      (sixteen (c .before .before) .1, power-small (start .args .powers .now) (start .pre .1 .3) _ (omega (arith, start .pre .1 .2)), start .pre .1 .4)
+      (sixteen (c .before .before) .1, root-small (start .args .roots .now) (start .pre .1 .3) _ (omega (arith, start .pre .1 .2)), start .pre .1 .4)
 
   same-length-2 : lts.Need-same-length-2 (known t) (at t) decompose.Post
   same-length-2 c = c .before .before .split2 .kept .0
@@ -184,8 +193,8 @@ module _ (t : ℕ) where
       let s = c .before .before .split2 .last .0 in
       let none : k - 1 ≤ 0 = omega (arith, else .if1 .left) in
       sym (take-append-drop 8 s)
-      ∙ remainders-layer k (start .args .e) 8 (getD (start .args .powers .now) (start .args .e / 2) 0) (start .args .s .now) s (take 8 s) (drop 8 s)
-      (start .pre .1 .0) (sixteen else .0) (sixteen else .1) (power-at (start .args .powers .now) (start .pre .1 .3) (start .args .e / 2) (omega (arith, start .pre .1 .2))) (c .before .before .split2 .ensures)
+      ∙ remainders-layer k (start .args .e) 8 (getD (start .args .roots .now) (start .args .e / 2 / 8) 0) (start .args .s .now) s (take 8 s) (drop 8 s)
+      (start .pre .1 .0) (sixteen else .0) (sixteen else .1) (root-at (start .args .roots .now) (start .pre .1 .3) (start .args .e / 2) (omega (arith, start .pre .1 .2)) (aligned-split k (start .args .e) (start .pre .1 .0) (start .pre .1 .5) .0)) (c .before .before .split2 .ensures)
       (remainders-leaf (k - 1) _ (take 8 s) none) (remainders-leaf (k - 1) _ (drop 8 s) none)
 
 pub +decompose-spec : {M : Type 1} → statement M

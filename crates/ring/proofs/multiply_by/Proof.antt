@@ -1,10 +1,11 @@
 -- `ring::multiply_by` meets its contract. Assumes nothing.
-use mathlib.Core.Path.{ap, ap₂, _∙_}
+use mathlib.Core.Path.{refl, ap, ap₂, _∙_}
 use mathlib.Core.List.{map}
 use native.Mathlib.Omega.{arith}
 use borrow.Author.Needs.{needs}
 use lib.ListN.{length}
 use Rattle.polynomials.specs.Field.{mul}
+use Rattle.ring.specs.Powers.{aligned}
 use Rattle.ring.specs.Transform.{size, convolution}
 use Rattle.ring.proofs.Zips.{within-of}
 use Rattle.ring.proofs.Spectra.{length-spectrum, within-spectrum, within-signed-residues, product-is}
@@ -15,7 +16,7 @@ signed-residues-requires : tie.Need-signed-residues-requires
 signed-residues-requires c κs = search needs
 
 convolve-requires : tie.Need-convolve-requires
-unfolding size
+unfolding size aligned
 convolve-requires c κs =
     let done = c .before .before .before in
     let start = done .before .before .before .before .before .before in (
@@ -26,6 +27,7 @@ convolve-requires c κs =
       start .pre .4,
       within-of (done .signed-residues .last .0) _ (done .signed-residues .ensures) (within-signed-residues (start .args .z .now)),
       within-of (start .args .spectrum .now) _ (start .pre .3) (within-spectrum (start .args .a .now)),
+      refl,
     )
 
 rescale-requires : tie.Need-rescale-requires

@@ -1,7 +1,8 @@
 -- `ring::transform_by` meets its contract. Assumes nothing.
-use mathlib.Core.Path.{ap, _∙_}
+use mathlib.Core.Path.{refl, ap, _∙_}
 use native.Mathlib.Omega.{arith}
 use borrow.Author.Needs.{needs}
+use Rattle.ring.specs.Powers.{aligned}
 use Rattle.ring.specs.Transform.{size, remainders, spectrumOf}
 use Rattle.ring.proofs.Zips.{within-of}
 use Rattle.ring.proofs.Spectra.{within-residues}
@@ -12,11 +13,11 @@ residues-requires : tie.Need-residues-requires
 residues-requires c κs = search needs
 
 decompose-requires : tie.Need-decompose-requires
-unfolding size
+unfolding size aligned
 decompose-requires c κs =
     let done = c .before .before .before in
     let start = done .before .before .before .before .before in
-    (omega arith, done .residues .kept .0 ∙ start .pre .1, omega arith, start .pre .2, within-of (done .residues .last .0) _ (done .residues .ensures) (within-residues (start .args .a .now)))
+    (omega arith, done .residues .kept .0 ∙ start .pre .1, omega arith, start .pre .2, within-of (done .residues .last .0) _ (done .residues .ensures) (within-residues (start .args .a .now)), refl)
 
 same-length : tie.Need-same-length
 same-length c = search needs

@@ -1,7 +1,7 @@
 -- `ring::two_blocks` meets its contract. Assumes nothing.
 use mathlib.Core.Path.{_≡_, refl, ap, ap₂, sym, _∙_}
 use mathlib.Core.List.{List, _++_}
-use Prim.Native.Nat.{ℕ, _<_, _+_, _-_, _/_}
+use Prim.Native.Nat.{ℕ, _<_, _+_, _*_, _-_, _/_}
 use native.Mathlib.Omega.{arith}
 use lib.Dec.{lit<}
 use lib.ListN.{length, take, drop, getD, length-drop}
@@ -14,7 +14,7 @@ use Rattle.ring.specs.Transform.{Within, size, joined, convolution}
 use Rattle.ring.proofs.Zips.{within-of, within-append, within-take, within-drop}
 use Rattle.ring.proofs.Products.{within-product}
 use Rattle.ring.proofs.Halves.{rest-lent, still-two, second-half, both-back, back-two}
-use Rattle.ring.proofs.Layers.{length-powers, power-at, power-small, within-first, within-second, convolution-layer}
+use Rattle.ring.proofs.Layers.{length-roots, root-at, root-small, aligned-split, within-first, within-second, convolution-layer}
 use Rattle.ring.proofs.two_blocks.Statement.{statement}
 use Rattle.ring.proofs.two_blocks.Tie as tie
 
@@ -28,21 +28,33 @@ module _ (c : tie.Start) where
   abbrev d : ℕ
   d = c .args .e / 2
 
-  -- the table's entry at an exponent
+  -- the root at an exponent
   abbrev root : ℕ → ℕ
-  root i = getD (c .args .powers .now) i 0
+  root i = getD (c .args .roots .now) (i / 8) 0
 
   exponent : d < 512
   exponent = omega (arith, c .pre .2)
 
-  root-small : (i : ℕ) → i < 1024 → root i < modulus
-  root-small = power-small (c .args .powers .now) (c .pre .3)
+  eighth : 8 * (d / 8) ≡ d
+  eighth = aligned-split 1 (c .args .e) (lit< tt) (c .pre .6) .0
 
-  root-is : (i : ℕ) → i < 1024 → root i ≡ power i
-  root-is = power-at (c .args .powers .now) (c .pre .3)
+  small : (i : ℕ) → i < 1024 → root i < modulus
+  small i h = root-small (c .args .roots .now) (c .pre .3) (i / 8) (omega arith)
 
-  table-long : length (c .args .powers .now) ≡ 1024
-  table-long = length-powers (c .args .powers .now) (c .pre .3)
+  root-is : (i : ℕ) → i < 1024 → 8 * (i / 8) ≡ i → root i ≡ power i
+  root-is = root-at (c .args .roots .now) (c .pre .3)
+
+  first-is : root d ≡ power d
+  first-is = root-is d (omega (arith, exponent)) eighth
+
+  second-is : root (d + 512) ≡ power (d + 512)
+  second-is = root-is (d + 512) (omega (arith, exponent)) (omega (arith, eighth))
+
+  back-is-root : root (512 - d) ≡ power (512 - d)
+  back-is-root = root-is (512 - d) (omega arith) (omega (arith, eighth, exponent))
+
+  table-long : length (c .args .roots .now) ≡ 128
+  table-long = length-roots (c .args .roots .now) (c .pre .3)
 
   key-rest : length (drop 8 key) ≡ 8
   key-rest = length-drop 8 key ∙ omega (arith, c .pre .1)
@@ -109,7 +121,7 @@ shared-slice-read-split c = let start = c .before .before .before .before .befor
 split-requires : tie.Need-split-requires
 split-requires c κs =
     let start = c .before .before .before .before .before in
-    (start .pre .0, root-small start _ (omega (arith, exponent start)), start .pre .4)
+    (start .pre .0, small start _ (omega (arith, exponent start)), start .pre .4)
 
 slice-relend-prefix-block : tie.Need-slice-relend-prefix-block
 slice-relend-prefix-block c = omega (arith, two (c .before .before))
@@ -134,7 +146,7 @@ block-requires c κs =
     let start = start split in (
       first-long split,
       length-take-le 8 (key start) (omega (arith, start .pre .1)),
-      root-small start _ (omega (arith, exponent start)),
+      small start _ (omega (arith, exponent start)),
       within-first 8 (root start (d start)) (l start) (s split) (start .pre .0) (split .split .ensures),
       within-take 12288 8 (key start) (start .pre .5),
     )
@@ -175,7 +187,7 @@ block-requires-2 c κs =
     let start = start split in (
       ap length (lent first) ∙ length-drop 8 (s split) ∙ omega (arith, two split),
       ap length (rest-lent 8 (key start)) ∙ key-rest start,
-      root-small start _ (omega (arith, exponent start)),
+      small start _ (omega (arith, exponent start)),
       rw (lent first) (within-second 8 (root start (d start)) (l start) (s split) (start .pre .0) (split .split .ensures)),
       rw (rest-lent 8 (key start)) (within-drop 12288 8 (key start) (start .pre .5)),
     )
@@ -192,7 +204,7 @@ shared-slice-read-join c = omega (arith, table-long (start (split (first (c .bef
 join-requires : tie.Need-join-requires
 join-requires c κs =
     let both = c .before .before .before .before in
-    (back-long both, root-small (start (split (first both))) _ (omega arith), back-small both)
+    (back-long both, small (start (split (first both))) _ (omega arith), back-small both)
 
 same-length : tie.Need-same-length
 same-length c =
@@ -207,11 +219,11 @@ returns c =
     let split = split first in
     let start = start split in
     convolution-layer 1 (start .args .e) 8 (root start (d start)) (root start (512 - d start)) (key start) (l start) (s split) (m first) (n both) (c .before .before .join .last .0)
-    (lit< tt) refl (start .pre .0) (root-is start (d start) (omega (arith, exponent start))) (root-is start (512 - d start) (omega arith))
+    (lit< tt) refl (start .pre .0) (first-is start) (back-is-root start)
     (split .split .ensures)
-    (first .block .ensures ∙ ap (λ (w : ℕ). productModulo w (take 8 (key start)) (take 8 (s split))) (root-is start (d start) (omega (arith, exponent start))))
+    (first .block .ensures ∙ ap (λ (w : ℕ). productModulo w (take 8 (key start)) (take 8 (s split))) (first-is start))
     (both .block2 .ensures ∙ ap₂ (productModulo (root start (d start + 512))) (rest-lent 8 (key start)) (lent first)
-    ∙ ap (λ (w : ℕ). productModulo w (drop 8 (key start)) (drop 8 (s split))) (root-is start (d start + 512) (omega (arith, exponent start))))
+    ∙ ap (λ (w : ℕ). productModulo w (drop 8 (key start)) (drop 8 (s split))) (second-is start))
     (as-long first ∙ first-long split)
     (c .before .before .join .ensures ∙ ap (λ (r : List ℕ). joined (root start (512 - d start)) (take 8 r) (drop 8 r)) (back-is both))
 

@@ -1,5 +1,6 @@
 use mathlib.Core.Path.{sym, ap, _∙_}
 use Prim.Native.Nat.{_+_, _*_}
+use native.Mathlib.Omega.{arith}
 use borrow.Author.Needs.{needs}
 use lib.Dec.{lit<}
 use lib.IntN.{ℤ, pos, _+ℤ_, +ℤ-assoc}
@@ -19,6 +20,9 @@ lift-requires c κs = search needs
 add-result : tie.Need-add-result
 add-result c = search needs
 
+cast-result : tie.Need-cast-result
+cast-result c = omega arith
+
 returns : tie.Need-returns
 unfolding summed
 returns c =
@@ -27,4 +31,4 @@ returns c =
     (ap (λ (z : ℤ). pos (factor * a .t) +ℤ z) (c .lift .ensures .0 ∙ ap (λ (z : ℤ). z +ℤ pos (2 * twiceModulus)) (given (c .before .fits .y) .back)) ∙ sym (+ℤ-assoc (pos (factor * a .t)) (a .y) (pos (2 * twiceModulus))))
 
 pub sum-spec : {M : Type 1} → statement M
-sum-spec = tie.close (tie.spec mul-result lift-requires add-result returns)
+sum-spec = tie.close (tie.spec mul-result lift-requires add-result cast-result returns)

@@ -135,11 +135,11 @@ same-length-2 c = search needs
 
 returns-2 : tie.Need-returns-2
 returns-2 c =
-    let m = c .before .before .before .before .before .before .before .before .before .before in
+    let m = c .before .before .before .before .before .before .before .before .before .before .before .before in
     let t = key m in
     let a = start t .args in
     admitted _ _ _ (leaving (pair (a .z1 .now) (a .z2 .now)) 0) _ _ (t .before .before .proper-key .ensures) (t .before .is-done .ensures) (t .if1 .left)
-    (c .before .before .draw-for .ensures ∙ ap (drawn _ _) (m .choose .ensures))
+    (c .before .before .before .before .draw-for .ensures ∙ ap (drawn _ _) (m .choose .ensures))
 
 pub sign-with-spec : {M : Type 1} → statement M
 sign-with-spec =
