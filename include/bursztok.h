@@ -19,10 +19,9 @@
  *   may run on several threads at once, as long as none writes to memory that another uses.
  *
  *   The stack that a call takes at most, in bytes, is BURSZTOK_STACK_RESPOND and so on below: the
- *   return address and the stacked arguments are included, and it is the same for all sets. The
- *   figures are measured, by painting, and the gate fails where a call takes more. They hold for
- *   the archive as it is built; what the C library's memcpy and memset take themselves is seen
- *   as it is on the machine that measures, and what the loader takes to find them is not seen.
+ *   return address and the stacked arguments included, the same for all sets. The figures are
+ *   measured, by painting, and the library's tests fail where a call takes more. What memcpy and
+ *   memset of the C library take is in them; what a loader takes to find these is not.
  *
  * ANSWERS
  *

@@ -25,11 +25,12 @@ const THRICE: i32 = 3 * (Set::MODULUS as i32);
 // 1 divided by 64, modulo q.
 const INVERSE: u16 = 12097;
 
-// The powers that the transform takes, and how far apart their exponents are.
+// How many powers the transform takes, and how far apart their exponents are.
 const ROOTS: usize = 128;
 
 const APART: usize = 8;
 
+// How many roots are taken from the table in a row.
 const ROW: usize = 16;
 
 // The product of the key a and z. One working vector lives beside out, which serves as the other: the spectrum.
