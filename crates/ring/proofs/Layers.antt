@@ -14,8 +14,8 @@ use lib.Seq.{take-at, drop-at, getD-set-same, getD-set-other}
 use Rattle.laws.proofs.Chain.{and-left, and-right}
 use Rattle.laws.proofs.Entries.{length-tabulate, getD-tabulate}
 use Rattle.sets.specs.Numbers.{modulus}
-use Rattle.ring.specs.Powers.{power, Powers, root, Rooted, Roots, aligned}
-use Rattle.ring.specs.Transform.{Within, low, high, size, remainders, joined, convolution}
+use Rattle.ring.specs.Powers.{power, Powers}
+use Rattle.ring.specs.Transform.{Within, low, high, size, remainders, root, Rooted, Roots, aligned, joined, convolution}
 use Rattle.ring.proofs.Products.{length-low}
 use Rattle.ring.proofs.Spectra.{within-low, within-high}
 use Rattle.ring.proofs.Field.{power-le}
@@ -53,8 +53,8 @@ rooted-more l n x h e so k b = pick (decLt k n)
         ap (λ (j : ℕ). getD (update l n x) j 0) (sym last) ∙ getD-set-same l n x 0 h ∙ e ∙ ap root last
 
 pub all-rooted : (n : ℕ) (l : List ℕ) → length l ≡ 128 → 128 ≤ n → Rooted n l → Roots l
-unfolding Rooted Roots
-all-rooted n l e h so = (e, λ k b. so k (omega arith))
+unfolding Roots
+all-rooted n l e h so = (e, rooted-le l n 128 h so)
 
 pub length-roots : (t : List ℕ) → Roots t → length t ≡ 128
 unfolding Roots

@@ -1,8 +1,11 @@
 -- The transform: a polynomial modulo x^512 + 1 is taken apart into its remainders modulo x^8 - w for 64 numbers w, products are made of
 -- remainders, and put together again. What the product is does not rest on this page (polynomials/specs/Product.antt says it).
+use mathlib.Core.Path.{_≡_}
+use mathlib.Core.Bool.{Bool, _&&_}
 use mathlib.Core.List.{List, _++_, map}
-use Prim.Native.Nat.{ℕ, zero, suc, _+_, _-_, _/_, _%_, _≤_}
-use lib.ListN.{getD, take, drop}
+use Prim.Native.Nat.{ℕ, zero, suc, _+_, _*_, _-_, _/_, _%_, _<_, _≤_}
+use lib.Dec.{eqb}
+use lib.ListN.{length, getD, take, drop}
 use Rattle.laws.specs.Lists.{zipWith}
 use Rattle.sets.specs.Numbers.{dimension, modulus}
 use Rattle.polynomials.specs.Field.{add, mul, productModulo}
@@ -47,6 +50,25 @@ remainders (suc k) e f =
 -- the spectrum of a key: -1 is 49^512
 unfoldable pub spectrumOf : List ℕ → List ℕ
 spectrumOf a = remainders 6 dimension (map (λ x. x % modulus) a)
+
+-- ---- the powers that it takes: those whose exponents are multiples of 8
+
+-- each eighth entry of the table
+abbrev pub root : ℕ → ℕ
+root i = power (8 * i)
+
+-- the first n entries are roots
+unfoldable pub Rooted : ℕ → List ℕ → Type 0
+Rooted n roots = (k : ℕ) → k < n → getD roots k 0 ≡ root k
+
+-- the 128 roots
+unfoldable pub Roots : List ℕ → Type 0
+Roots roots = (length roots ≡ 128) × Rooted 128 roots
+
+-- whether every exponent that k splits modulo x^(size k) - 49^e take is a multiple of 8
+unfoldable pub aligned : ℕ → ℕ → Bool
+aligned zero e = eqb (8 * (e / 8)) e
+aligned (suc k) e = eqb (8 * (e / 2 / 8)) (e / 2) && (aligned k (e / 2) && aligned k (e / 2 + dimension))
 
 -- ---- products of remainders
 

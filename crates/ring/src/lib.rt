@@ -11,8 +11,8 @@ ghost use Rattle.laws.specs.Lists.{zipWith};
 ghost use Rattle.sets.specs.Numbers.{dimension, modulus};
 ghost use Rattle.polynomials.specs.Field.{add, mul, productModulo};
 ghost use Rattle.polynomials.specs.Product.{product};
-ghost use Rattle.ring.specs.Powers.{Powers, Rooted, Roots, aligned};
-ghost use Rattle.ring.specs.Transform.{sub, Within, low, high, size, remainders, spectrumOf, joined, convolution};
+ghost use Rattle.ring.specs.Powers.{Powers};
+ghost use Rattle.ring.specs.Transform.{sub, Within, low, high, size, remainders, spectrumOf, Rooted, Roots, aligned, joined, convolution};
 use sets::Set;
 use table::POWERS;
 

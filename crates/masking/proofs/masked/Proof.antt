@@ -22,10 +22,6 @@ module _ (c : tie.Start) where
   v-is : Reads w16 (ofZ w16 v) v
   v-is = given (c .fits .v)
 
--- the operation that the sign bit picks
-picked : (bit b : Bool) (y v : ℤ) → not bit ≡ b → addedIf b y v ≡ addedIf (not bit) y v
-picked bit b y v e = rw e
-
 sub-result : tie.Need-sub-result
 sub-result c = sub-ok (y-is (c .before)) (v-is (c .before)) (c .before .pre)
 
@@ -35,12 +31,12 @@ add-result c = add-ok (y-is (c .before)) (v-is (c .before)) (c .before .pre)
 returns : tie.Need-returns
 returns c =
     let s = c .before in
-    sub-is (y-is s) (v-is s) (s .pre) .back ∙ picked (s .args .minus) _ (y s) (v s) (ap not (c .if1 .taken))
+    sub-is (y-is s) (v-is s) (s .pre) .back ∙ ap (λ (b : Bool). addedIf (not b) (y s) (v s)) (sym (c .if1 .taken))
 
 returns-2 : tie.Need-returns-2
 returns-2 c =
     let s = c .before in
-    add-is (y-is s) (v-is s) (s .pre) .back ∙ picked (s .args .minus) _ (y s) (v s) (ap not (c .if1 .left))
+    add-is (y-is s) (v-is s) (s .pre) .back ∙ ap (λ (b : Bool). addedIf (not b) (y s) (v s)) (sym (c .if1 .left))
 
 pub masked-spec : {M : Type 1} → statement M
 masked-spec = tie.close (tie.spec sub-result add-result returns returns-2)

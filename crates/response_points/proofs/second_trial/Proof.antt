@@ -1,12 +1,12 @@
 use mathlib.Core.List.{List}
-use Prim.Native.Nat.{ℕ, zero, suc, _≤_}
+use Prim.Native.Nat.{_≤_}
 use native.Mathlib.Omega.{arith}
 use borrow.Author.Needs.{needs}
-use lib.IntN.{ℤ, pos, natAbs}
-use lib.ListN.{getD, replicate}
-use Rattle.sets.specs.Numbers.{dimension}
+use lib.IntN.{ℤ}
 use Rattle.vectors.specs.Vectors.{sizes}
 use Rattle.vectors.proofs.Lengths.{sizes-le-times}
+use Rattle.choices.specs.Choices.{zeros}
+use Rattle.choices.proofs.Sums.{within-zeros}
 use Rattle.response_points.proofs.second_trial.Statement.{statement}
 use Rattle.response_points.proofs.second_trial.Tie as tie
 
@@ -16,14 +16,9 @@ slice-aggregate-second-trial c = search needs
 slice-aggregate-second-trial-2 : tie.Need-slice-aggregate-second-trial-2
 slice-aggregate-second-trial-2 c = search needs
 
-none : (n k : ℕ) → natAbs (getD (replicate n (pos 0)) k (pos 0)) ≤ 0
-none zero k = omega arith
-none (suc n) zero = omega arith
-none (suc n) (suc k) = none n k
-
 -- masks that are zero add nothing
-nothing : (v : List ℤ) → sizes (replicate dimension (pos 0)) v ≤ 0
-nothing v = omega (arith, sizes-le-times 0 (replicate dimension (pos 0)) v (none dimension))
+nothing : (v : List ℤ) → sizes zeros v ≤ 0
+nothing v = omega (arith, sizes-le-times 0 zeros v (within-zeros 0 .first))
 
 second-trial-requires : tie.Need-second-trial-requires
 second-trial-requires c κs =

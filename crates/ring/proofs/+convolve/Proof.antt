@@ -10,8 +10,8 @@ use borrow.Fn.Kinds.{In}
 use borrow.Fn.PlainCycle.{Measures, is, falls, and}
 use borrow.Rule.Slice.PartMut.{putMid}
 use Rattle.sets.specs.Numbers.{modulus}
-use Rattle.ring.specs.Powers.{power, aligned}
-use Rattle.ring.specs.Transform.{Within, size, convolution, joined}
+use Rattle.ring.specs.Powers.{power}
+use Rattle.ring.specs.Transform.{Within, size, aligned, convolution, joined}
 use Rattle.ring.proofs.Zips.{within-of, within-append, within-take, within-drop}
 use Rattle.ring.proofs.Spectra.{within-convolution}
 use Rattle.ring.proofs.Halves.{rest-lent, still-two, second-half, both-back, back-two}

@@ -8,8 +8,7 @@ use lib.ListN.{length, take, drop, getD, length-drop, take-append-drop}
 use lib.Seq.{length-take-le}
 use borrow.Fn.Kinds.{In}
 use borrow.Fn.PlainCycle.{Measures, is, falls, and}
-use Rattle.ring.specs.Powers.{aligned}
-use Rattle.ring.specs.Transform.{Within, size, remainders}
+use Rattle.ring.specs.Transform.{Within, size, remainders, aligned}
 use Rattle.ring.proofs.Halves.{still-two, second-half, both-back, back-two}
 use Rattle.ring.proofs.Layers.{length-roots, root-at, root-small, aligned-split, halved, last-size, within-first, within-second, remainders-layer, remainders-leaf}
 use Rattle.ring.proofs.decompose.Reads as decompose

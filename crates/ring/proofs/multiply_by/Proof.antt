@@ -5,8 +5,7 @@ use native.Mathlib.Omega.{arith}
 use borrow.Author.Needs.{needs}
 use lib.ListN.{length}
 use Rattle.polynomials.specs.Field.{mul}
-use Rattle.ring.specs.Powers.{aligned}
-use Rattle.ring.specs.Transform.{size, convolution}
+use Rattle.ring.specs.Transform.{size, aligned, convolution}
 use Rattle.ring.proofs.Zips.{within-of}
 use Rattle.ring.proofs.Spectra.{length-spectrum, within-spectrum, within-signed-residues, product-is}
 use Rattle.ring.proofs.multiply_by.Statement.{statement}

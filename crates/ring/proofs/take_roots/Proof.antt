@@ -3,7 +3,7 @@ use mathlib.Core.Path.{_≡_, sym, _∙_}
 use Prim.Native.Nat.{_*_, _-_, _/_, _≤_}
 use native.Mathlib.Omega.{arith}
 use lib.ListN.{length}
-use Rattle.ring.specs.Powers.{Rooted}
+use Rattle.ring.specs.Transform.{Rooted}
 use Rattle.ring.proofs.Layers.{rooted-none, all-rooted}
 use Rattle.ring.proofs.take_roots.Statement.{statement}
 use Rattle.ring.proofs.take_roots.Tie as tie

@@ -3,7 +3,7 @@ use mathlib.Core.Path.{_≡_, sym, _∙_}
 use Prim.Native.Nat.{ℕ, _+_, _*_, _-_, _≤_}
 use native.Mathlib.Omega.{arith}
 use lib.ListN.{length, length-set}
-use Rattle.ring.specs.Powers.{Rooted}
+use Rattle.ring.specs.Transform.{Rooted}
 use Rattle.ring.proofs.Layers.{length-powers, power-at, rooted-le, rooted-more}
 use Rattle.ring.proofs.take_row.Statement.{statement}
 use Rattle.ring.proofs.take_row.Tie as tie

@@ -2,8 +2,7 @@
 use mathlib.Core.Path.{refl, ap, _∙_}
 use native.Mathlib.Omega.{arith}
 use borrow.Author.Needs.{needs}
-use Rattle.ring.specs.Powers.{aligned}
-use Rattle.ring.specs.Transform.{size, remainders, spectrumOf}
+use Rattle.ring.specs.Transform.{size, aligned, remainders, spectrumOf}
 use Rattle.ring.proofs.Zips.{within-of}
 use Rattle.ring.proofs.Spectra.{within-residues}
 use Rattle.ring.proofs.transform_by.Statement.{statement}
