@@ -176,6 +176,24 @@ bursztok_answer bursztok_commitment(uint32_t set,
                                     uint16_t *out, size_t out_len);
 
 /*
+ * The commitment with rests, for calibration: everything that bursztok_commitment does, and
+ * beside each entry of out the rest of the sum that it was rounded from. A sum x has the rest
+ * x - 2^d q, where q is (x + 2^(d-1)) / 2^d rounded down and out has q modulo p: how far x lies
+ * from its rounded step, a whole number in -2^(d-1) .. 2^(d-1) - 1. The same masks make the same
+ * out as in bursztok_commitment. Like the masks, the rests are secret: with out they tell the
+ * sums.
+ *
+ * Refusals in order: 1, 2, 3, 4; 2 covers out and rests too. Number 0 writes all of out and of
+ * rests (512 entries each).
+ */
+bursztok_answer bursztok_commitment_with_rests(uint32_t set,
+                                               const uint16_t *a, size_t a_len,
+                                               const int16_t *y1, size_t y1_len,
+                                               const int16_t *y2, size_t y2_len,
+                                               uint16_t *out, size_t out_len,
+                                               int16_t *rests, size_t rests_len);
+
+/*
  * The response to a list: z1 and z2 dagger of the signature, for the masks that the list was
  * made from. sign is the random sign bit; it must be 0 or 1.
  *

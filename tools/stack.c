@@ -25,6 +25,7 @@ static uint32_t set;
 static int8_t f[BURSZTOK_VECTOR], g[BURSZTOK_VECTOR], z2[BURSZTOK_VECTOR];
 static uint16_t a[BURSZTOK_VECTOR], rounded[BURSZTOK_VECTOR];
 static int16_t y1[BURSZTOK_VECTOR], y2[BURSZTOK_VECTOR], z1[BURSZTOK_VECTOR];
+static int16_t rests[BURSZTOK_VECTOR];
 static uint16_t list[BURSZTOK_LIST], list_out[BURSZTOK_LIST];
 static size_t kappa;
 static bool sign;
@@ -75,6 +76,14 @@ static void commitment(void)
 {
     number = bursztok_commitment(set, a, BURSZTOK_VECTOR, y1, BURSZTOK_VECTOR, y2,
                                  BURSZTOK_VECTOR, rounded, BURSZTOK_VECTOR)
+                 .number;
+}
+
+static void commitment_with_rests(void)
+{
+    number = bursztok_commitment_with_rests(set, a, BURSZTOK_VECTOR, y1, BURSZTOK_VECTOR, y2,
+                                            BURSZTOK_VECTOR, rounded, BURSZTOK_VECTOR, rests,
+                                            BURSZTOK_VECTOR)
                  .number;
 }
 
@@ -139,6 +148,7 @@ static const struct row rows[] = {
     {"bursztok_record_bytes", record_bytes_of, BURSZTOK_STACK_OTHER},
     {"bursztok_key_test", key_test, BURSZTOK_STACK_KEY_TEST},
     {"bursztok_commitment", commitment, BURSZTOK_STACK_COMMITMENT},
+    {"bursztok_commitment_with_rests", commitment_with_rests, BURSZTOK_STACK_COMMITMENT},
     {"bursztok_respond", respond, BURSZTOK_STACK_RESPOND},
     {"bursztok_rebuild", rebuild, BURSZTOK_STACK_REBUILD},
     {"bursztok_compare", compare, BURSZTOK_STACK_OTHER},
@@ -215,10 +225,10 @@ int main(void)
             }
         }
     }
-    printf("%-22s %7s %7s %7s %7s %8s\n", "bytes of stack", "set 1", "set 2", "set 3", "set 4",
+    printf("%-31s %7s %7s %7s %7s %8s\n", "bytes of stack", "set 1", "set 2", "set 3", "set 4",
            "at most");
     for (size_t i = 0; i < calls; i++) {
-        printf("%-22s", rows[i].name);
+        printf("%-31s", rows[i].name);
         for (int s = 0; s < SETS; s++) {
             printf(" %7u", (unsigned)most[i][s]);
         }

@@ -2,7 +2,7 @@
  * The calls over a pipe, for machines that cannot link the library, which is made for x86-64: src/served.rs
  * asks, and this program, with the library linked, answers until its input ends.
  *
- * A request is the call's number (their order in bursztok.h, from 1), the set, the sign bit and the count of
+ * A request is the call's number (the cases of `answer`), the set, the sign bit and the count of
  * buffers, four bytes each, then every buffer: its length in bytes, eight bytes, and its contents. The reply is four
  * numbers of eight bytes, which are the number, the place and what else the call answers, then the contents of the
  * buffers that the call may write to, which are the last ones. All numbers are low byte first.
@@ -100,8 +100,12 @@ static reply answer(uint32_t call, uint32_t set, bool sign, uint32_t *written)
     case 10:
         return found(bursztok_list_section);
     case 11:
-        return (reply){ bursztok_kappa(set), 0, 0, 0 };
+        *written = 2;
+        return told(bursztok_commitment_with_rests(set, ENTRIES(0, const uint16_t), ENTRIES(1, const int16_t),
+                                                   ENTRIES(2, const int16_t), ENTRIES(3, uint16_t), ENTRIES(4, int16_t)));
     case 12:
+        return (reply){ bursztok_kappa(set), 0, 0, 0 };
+    case 13:
         return (reply){ bursztok_record_bytes(set), 0, 0, 0 };
     default:
         exit(1);

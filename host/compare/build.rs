@@ -2,7 +2,7 @@
 //! the C library goes to its `__wrap_` function, which reaches the call itself as `__real_`.
 
 /// The calls of `include/bursztok.h`.
-const CALLS: [&str; 12] = [
+const CALLS: [&str; 13] = [
     "key_test",
     "commitment",
     "respond",
@@ -13,6 +13,7 @@ const CALLS: [&str; 12] = [
     "z1_section",
     "z2_section",
     "list_section",
+    "commitment_with_rests",
     "kappa",
     "record_bytes",
 ];

@@ -6,6 +6,14 @@ module _ {set a y1 y2 out rest : Type 0} where
   abbrev pub commitment-out : set × (a × (y1 × (y2 × (out × rest)))) → out
   commitment-out lent = lent .1 .1 .1 .1 .0
 
+-- commitment_with_rests(set, a, y1, y2, out, rests)
+module _ {set a y1 y2 out rests rest : Type 0} where
+  abbrev pub with-rests-out : set × (a × (y1 × (y2 × (out × (rests × rest))))) → out
+  with-rests-out lent = lent .1 .1 .1 .1 .0
+
+  abbrev pub with-rests-rests : set × (a × (y1 × (y2 × (out × (rests × rest))))) → rests
+  with-rests-rests lent = lent .1 .1 .1 .1 .1 .0
+
 -- respond(set, f, g, a, y1, y2, list, sign, thresholds, words, z1, z2)
 module _ {set f g a y1 y2 list sign thresholds words z1 z2 rest : Type 0} where
   abbrev pub response-z1 : set × (f × (g × (a × (y1 × (y2 × (list × (sign × (thresholds × (words × (z1 × (z2 × rest))))))))))) → z1

@@ -11,6 +11,7 @@ use borrow.Author.Needs.{needs}
 use Rattle.answers.specs.declared.Outcome.{Outcome}
 use Rattle.answers.specs.declared.Outcome.the-variants.{Done, HeaderMalformed}
 use Rattle.answers.specs.Outcomes.{Filled, filled}
+use Rattle.commitment.specs.Commitment.{WithRests, withRests}
 use Rattle.signing.specs.Response.{Responded, responded}
 use Rattle.record_forms.specs.declared.Header.{Header}
 use Rattle.record_forms.specs.declared.Header.the-variants.{States, Malformed}
@@ -21,7 +22,7 @@ use Rattle.bursztok.specs.declared.Answer.{Answer}
 use Rattle.bursztok.specs.declared.Response.{Response}
 use Rattle.bursztok.specs.declared.Reading.{Reading}
 use Rattle.bursztok.specs.declared.Part.{Part}
-use Rattle.bursztok.specs.Exports.{answerOf, left, leftBy, responseWith, replied, repliedBy, readingWith, stored, storedBy, located, locatedBy, partAt}
+use Rattle.bursztok.specs.Exports.{answerOf, left, leftBy, leftWithRests, leftWithRestsBy, responseWith, replied, repliedBy, readingWith, stored, storedBy, located, locatedBy, partAt}
 
 pub answer-at : (r : Answer) (o w : Outcome) → r ≡ answerOf o → o ≡ w → r ≡ answerOf w
 answer-at r o w p e = p ∙ ap answerOf e
@@ -29,6 +30,9 @@ answer-at r o w p e = p ∙ ap answerOf e
 module _ (r : Answer) (o : Outcome) (l : List ℕ) (p : r ≡ answerOf o) where
   pub left-at : (w : Filled) → filled o l ≡ w → left r l ≡ leftBy w
   left-at w e = ap (λ (x : Answer). left x l) p ∙ ap leftBy e
+
+pub rests-left-at : (r : Answer) (o : Outcome) (x : List ℕ) (y : List ℤ) (w : WithRests) → r ≡ answerOf o → withRests o x y ≡ w → leftWithRests r x y ≡ leftWithRestsBy w
+rests-left-at r o x y w p e = ap (λ (s : Answer). leftWithRests s x y) p ∙ ap leftWithRestsBy e
 
 pub replied-at : (r : Response) (o : Outcome) (n : ℕ) (x y : List ℤ) (w : Responded) → r ≡ responseWith o n → responded o n x y ≡ w → replied r x y ≡ repliedBy w
 replied-at r o n x y w p e = ap (λ (s : Response). replied s x y) p ∙ ap repliedBy e
@@ -55,4 +59,4 @@ module _ (from to : ℕ) (at : ℕ × ℕ) (rec : List ℕ) (p : ℕ × ℕ) (by
       ∙ ap (λ (k : ℕ). located (record { start = k; length = length bytes }) n m) (start-in (headerIn rec) e)
       ∙ ap (locatedBy at) e
 
-pub ruleset exports = (needs, answer-at, left-at, replied-at, stored-at, located-at)
+pub ruleset exports = (needs, answer-at, left-at, rests-left-at, replied-at, stored-at, located-at)

@@ -5,14 +5,15 @@ use Prim.Native.Nat.{ℕ}
 use contract.Lifetimes.{Lfts}
 use denote.Ref.{now}
 use lib.IntN.{ℤ}
-use Rattle.answers.proofs.Slots.{commitment-out, response-z1, response-z2, rebuild-out, write-out, read-z1, read-z2, read-list, section-number, section-place}
+use Rattle.answers.proofs.Slots.{commitment-out, with-rests-out, with-rests-rests, response-z1, response-z2, rebuild-out, write-out, read-z1, read-z2, read-list, section-number, section-place}
 use Rattle.bursztok.specs.declared.Answer.{Answer}
 use Rattle.bursztok.specs.declared.Response.{Response}
 use Rattle.bursztok.specs.declared.Reading.{Reading}
 use Rattle.bursztok.specs.declared.Part.{Part}
-use Rattle.bursztok.specs.Exports.{Left, left, Replied, replied, Stored, stored, Located, located}
+use Rattle.bursztok.specs.Exports.{Left, left, LeftWithRests, leftWithRests, Replied, replied, Stored, stored, Located, located}
 use Rattle.bursztok.proofs.bursztok_key_test.Reads as key-test
 use Rattle.bursztok.proofs.bursztok_commitment.Reads as commitment
+use Rattle.bursztok.proofs.bursztok_commitment_with_rests.Reads as with-rests
 use Rattle.bursztok.proofs.bursztok_respond.Reads as respond
 use Rattle.bursztok.proofs.bursztok_rebuild.Reads as rebuild
 use Rattle.bursztok.proofs.bursztok_compare.Reads as compare
@@ -27,6 +28,10 @@ use Rattle.bursztok.proofs.bursztok_record_bytes.Reads as record-bytes
 -- what an export leaves behind is all in one value
 one-left : {r r′ : Answer} {l l′ : List ℕ} (w : Left) → left r l ≡ w → left r′ l′ ≡ w → (r ≡ r′) × (l ≡ l′)
 one-left w p q = (cc, cc)
+
+one-with-rests : {r r′ : Answer} {x x′ : List ℕ} {y y′ : List ℤ} (w : LeftWithRests) → leftWithRests r x y ≡ w → leftWithRests r′ x′ y′ ≡ w
+    → (r ≡ r′) × (x ≡ x′) × (y ≡ y′)
+one-with-rests w p q = (cc, cc, cc)
 
 one-replied : {r r′ : Response} {x x′ y y′ : List ℤ} (w : Replied) → replied r x y ≡ w → replied r′ x′ y′ ≡ w → (r ≡ r′) × (x ≡ x′) × (y ≡ y′)
 one-replied w p q = (cc, cc, cc)
@@ -45,6 +50,11 @@ key-test-determined κs a r r′ s s′ p q = p ∙ sym q
 pub commitment-determined : (κs : Lfts 4) (a : _) (r r′ : _) (s s′ : _) → commitment.Post κs a r s → commitment.Post κs a r′ s′
     → (r ≡ r′) × (now (commitment-out s) ≡ now (commitment-out s′))
 commitment-determined κs a r r′ s s′ p q = one-left _ p q
+
+-- the answer, and both output vectors
+pub commitment-with-rests-determined : (κs : Lfts 5) (a : _) (r r′ : _) (s s′ : _) → with-rests.Post κs a r s → with-rests.Post κs a r′ s′
+    → (r ≡ r′) × (now (with-rests-out s) ≡ now (with-rests-out s′)) × (now (with-rests-rests s) ≡ now (with-rests-rests s′))
+commitment-with-rests-determined κs a r r′ s s′ p q = one-with-rests _ p q
 
 -- the answer with the count of words, and both output vectors
 pub respond-determined : (κs : Lfts 10) (a : _) (r r′ : _) (s s′ : _) → respond.Post κs a r s → respond.Post κs a r′ s′

@@ -7,6 +7,7 @@ use lib.IntN.{ℤ}
 use lib.ListN.{length}
 use Rattle.answers.specs.declared.Outcome.{Outcome}
 use Rattle.answers.specs.Outcomes.{numberOf, placeOf, Filled, filled}
+use Rattle.commitment.specs.Commitment.{WithRests, withRests}
 use Rattle.signing.specs.Response.{Responded, responded}
 use Rattle.record_forms.specs.Sections.{Fetched, fetched}
 use Rattle.records.specs.Reader.{Found, found}
@@ -24,6 +25,13 @@ pub data Left : Type 0 where
 
 abbrev pub leftBy : Filled → Left
 leftBy (filled o out) = left (answerOf o) out
+
+-- the answer of the commitment with rests, and the contents of the vectors of digits and of rests
+pub data LeftWithRests : Type 0 where
+  leftWithRests : Answer → List ℕ → List ℤ → LeftWithRests
+
+abbrev pub leftWithRestsBy : WithRests → LeftWithRests
+leftWithRestsBy (withRests o digits rests) = leftWithRests (answerOf o) digits rests
 
 abbrev pub responseWith : Outcome → ℕ → Response
 responseWith o words = record { number = numberOf o; place = placeOf o; words = words }

@@ -2,14 +2,14 @@
 ghost use mathlib.Core.Path.{_≡_};
 ghost use Rattle.answers.specs.Sizes.{kappaAsked, recordBytesAsked};
 ghost use Rattle.keys.specs.Key.{keyTest};
-ghost use Rattle.commitment.specs.Commitment.{commitment};
+ghost use Rattle.commitment.specs.Commitment.{commitment, outputs, commitmentWithRests};
 ghost use Rattle.signing.specs.Response.{response};
 ghost use Rattle.checking.specs.Checking.{claim, rebuild, comparison};
 ghost use Rattle.record_forms.specs.Sections.{z1Section, z2Section, listSection};
 ghost use Rattle.records.specs.Writer.{writingOf};
 ghost use Rattle.records.specs.Reader.{readingOf};
 ghost use lib.ListN.{length};
-ghost use Rattle.bursztok.specs.Exports.{answerOf, left, leftBy, responseWith, replied, repliedBy, readingWith, stored, storedBy, partAt, located, locatedBy};
+ghost use Rattle.bursztok.specs.Exports.{answerOf, left, leftBy, leftWithRests, leftWithRestsBy, responseWith, replied, repliedBy, readingWith, stored, storedBy, partAt, located, locatedBy};
 use answers::Outcome;
 use record_forms::LIST_OFFSET;
 use record_forms::Z1_OFFSET;
@@ -62,6 +62,21 @@ pub extern "C" fn bursztok_commitment(
     ensures { λ r. ⌜ left r (now (out .exit)) ≡ leftBy (commitment set (now (a .entry)) (now (y1 .entry)) (now (y2 .entry)) (now (out .entry))) ⌝ }
 {
     answered(commitment::commitment(set, a, y1, y2, out))
+}
+
+#[no_mangle]
+pub extern "C" fn bursztok_commitment_with_rests(
+    set: u32,
+    a: &[u16],
+    y1: &[i16],
+    y2: &[i16],
+    out: &mut [u16],
+    rests: &mut [i16],
+) -> Answer
+    ensures { λ r. ⌜ leftWithRests r (now (out .exit)) (now (rests .exit))
+        ≡ leftWithRestsBy (commitmentWithRests set (now (a .entry)) (now (y1 .entry)) (now (y2 .entry)) (outputs (now (out .entry)) (now (rests .entry)))) ⌝ }
+{
+    answered(commitment::commitment_with_rests(set, a, y1, y2, out, rests))
 }
 
 #[no_mangle]

@@ -1,2 +1,3 @@
 -- What the other crates cite of the commitment.
 pub mod Sums
+pub mod Tests

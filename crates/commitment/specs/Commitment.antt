@@ -1,4 +1,4 @@
--- The commitment (01, "Commitment" and "Numbers that come back").
+-- The commitment, and the commitment with rests (01, "Commitment" and "Numbers that come back"; 02, C-20).
 use mathlib.Core.Bool.{Bool, _&&_}
 use mathlib.Core.List.{List, map}
 use Prim.Native.Nat.{ℕ, _<_}
@@ -8,10 +8,11 @@ use Rattle.laws.specs.Lists.{every, zipWith}
 use Rattle.laws.specs.Refusals.{must}
 use Rattle.sets.specs.declared.Set.{Set}
 use Rattle.sets.specs.Numbers.{twiceModulus, maskLimit, askedOf}
+use Rattle.answers.specs.declared.Outcome.{Outcome}
 use Rattle.answers.specs.declared.Outcome.the-variants.{Done, UnknownSet, WrongLength, CoefficientOutside, MaskOutside}
-use Rattle.answers.specs.Outcomes.{forSet, Filled, filled}
+use Rattle.answers.specs.Outcomes.{unless, forSet, Filled, filled}
 use Rattle.polynomials.specs.Product.{product}
-use Rattle.rounding.specs.Rounding.{upper, summed}
+use Rattle.rounding.specs.Rounding.{upper, rest, summed}
 use Rattle.vectors.specs.Vectors.{sized, within}
 use Rattle.keys.specs.Key.{isResidue}
 
@@ -30,18 +31,59 @@ sums a y1 y2 = zipWith summed (product a y1) y2
 unfoldable pub committed : Set → List ℕ → List ℤ → List ℤ → List ℕ
 committed s a y1 y2 = map (upper s) (sums a y1 y2)
 
+-- the rests of u
+unfoldable pub restsOf : Set → List ℕ → List ℤ → List ℤ → List ℤ
+restsOf s a y1 y2 = map (rest s) (sums a y1 y2)
+
 -- each entry is below 24578
 abbrev pub isReduced : List ℕ → Type 0
 isReduced u = (k : ℕ) → getD u k 0 < twiceModulus
 
--- the commitment for a set: 2, 3, 4; `out` is what the output vector held before
+-- ---- the refusals of both calls in their order: 2, 3, 4. `lent` tells whether each vector to be filled has 512 entries
+unfoldable pub tested : Bool → List ℕ → List ℤ → List ℤ → Outcome
+tested lent a y1 y2 =
+    must (sized a && (sized y1 && sized y2)) WrongLength
+    (must lent WrongLength
+    (must (every isResidue a) CoefficientOutside
+    (must (areMasks y1 y2) MaskOutside
+    Done)))
+
+-- ---- the commitment
+
+-- the commitment for a set; `out` is what the output vector held before
 abbrev pub commitmentFor : Set → List ℕ → List ℤ → List ℤ → List ℕ → Filled
 commitmentFor s a y1 y2 out =
-    must (sized a && (sized y1 && (sized y2 && sized out))) (filled WrongLength out)
-    (must (every isResidue a) (filled CoefficientOutside out)
-    (must (areMasks y1 y2) (filled MaskOutside out)
-    (filled Done (committed s a y1 y2))))
+    unless (tested (sized out) a y1 y2) (λ o. filled o out)
+    (filled Done (committed s a y1 y2))
 
 -- the commitment: 1, 2, 3, 4
 unfoldable pub commitment : ℕ → List ℕ → List ℤ → List ℤ → List ℕ → Filled
 commitment set a y1 y2 out = forSet (askedOf set) (filled UnknownSet out) (λ s. commitmentFor s a y1 y2 out)
+
+-- ---- the commitment with rests
+
+-- the contents of its two output vectors
+pub record Outputs : Type 0 where
+  pub digits : List ℕ
+  pub rests : List ℤ
+
+abbrev pub outputs : List ℕ → List ℤ → Outputs
+outputs digits rests = record { digits = digits; rests = rests }
+
+-- what it leaves behind: the outcome, and the contents of both
+pub data WithRests : Type 0 where
+  withRests : Outcome → List ℕ → List ℤ → WithRests
+
+-- an answer that leaves both as they were
+abbrev pub keeping : Outputs → Outcome → WithRests
+keeping old o = withRests o (old .digits) (old .rests)
+
+-- the commitment with rests for a set; `old` is what the output vectors held before
+abbrev pub withRestsFor : Set → List ℕ → List ℤ → List ℤ → Outputs → WithRests
+withRestsFor s a y1 y2 old =
+    unless (tested (sized (old .digits) && sized (old .rests)) a y1 y2) (keeping old)
+    (withRests Done (committed s a y1 y2) (restsOf s a y1 y2))
+
+-- the commitment with rests: 1, 2, 3, 4
+unfoldable pub commitmentWithRests : ℕ → List ℕ → List ℤ → List ℤ → Outputs → WithRests
+commitmentWithRests set a y1 y2 old = forSet (askedOf set) (keeping old UnknownSet) (λ s. withRestsFor s a y1 y2 old)

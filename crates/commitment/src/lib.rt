@@ -1,12 +1,12 @@
-// The commitment (01, "Commitment"), and the sums that the response and the rebuild round too.
+// The commitment and the commitment with rests (01, "Commitment"; 02, C-20), and the sums that the response and the rebuild round too.
 ghost use mathlib.Core.Path.{_≡_};
 ghost use mathlib.Core.List.{map};
 ghost use lib.ListN.{length};
 ghost use Rattle.laws.specs.Lists.{zipWith};
 ghost use Rattle.sets.specs.Numbers.{dimension};
 ghost use Rattle.answers.specs.Outcomes.{filled};
-ghost use Rattle.rounding.specs.Rounding.{upper, summed};
-ghost use Rattle.commitment.specs.Commitment.{isReduced, areMasks, sums, committed, commitment as commitmentOf, commitmentFor};
+ghost use Rattle.rounding.specs.Rounding.{upper, rest, summed};
+ghost use Rattle.commitment.specs.Commitment.{isReduced, areMasks, sums, committed, restsOf, tested as testedBy, commitment as commitmentOf, commitmentFor, outputs, withRests, commitmentWithRests, withRestsFor};
 use answers::Outcome;
 use sets::Asked;
 use sets::Set;
@@ -24,7 +24,57 @@ pub fn commitment(set: u32, a: &[u16], y1: &[i16], y2: &[i16], out: &mut [u16]) 
 fn commitment_for(s: Set, a: &[u16], y1: &[i16], y2: &[i16], out: &mut [u16]) -> Outcome
     ensures { λ r. ⌜ filled r (now (out .exit)) ≡ commitmentFor s (now (a .entry)) (now (y1 .entry)) (now (y2 .entry)) (now (out .entry)) ⌝ }
 {
-    if !vectors::four_sized(a.len(), y1.len(), y2.len(), out.len()) {
+    let o = tested(out.len() == Set::DIMENSION, a, y1, y2);
+    if !o.is_done() {
+        return o;
+    }
+    commit(s, a, y1, y2, out);
+    Outcome::Done
+}
+
+// The commitment with rests: refusals 1, 2, 3, 4.
+pub fn commitment_with_rests(
+    set: u32,
+    a: &[u16],
+    y1: &[i16],
+    y2: &[i16],
+    out: &mut [u16],
+    rests: &mut [i16],
+) -> Outcome
+    ensures { λ r. ⌜ withRests r (now (out .exit)) (now (rests .exit)) ≡ commitmentWithRests set (now (a .entry)) (now (y1 .entry)) (now (y2 .entry)) (outputs (now (out .entry)) (now (rests .entry))) ⌝ }
+{
+    match Set::asked(set) {
+        Asked::Unknown => Outcome::UnknownSet,
+        Asked::Known(s) => with_rests_for(s, a, y1, y2, out, rests),
+    }
+}
+
+fn with_rests_for(
+    s: Set,
+    a: &[u16],
+    y1: &[i16],
+    y2: &[i16],
+    out: &mut [u16],
+    rests: &mut [i16],
+) -> Outcome
+    ensures { λ r. ⌜ withRests r (now (out .exit)) (now (rests .exit)) ≡ withRestsFor s (now (a .entry)) (now (y1 .entry)) (now (y2 .entry)) (outputs (now (out .entry)) (now (rests .entry))) ⌝ }
+{
+    let o = tested(vectors::two_sized(out.len(), rests.len()), a, y1, y2);
+    if !o.is_done() {
+        return o;
+    }
+    commit_with_rests(s, a, y1, y2, out, rests);
+    Outcome::Done
+}
+
+// Refusals 2, 3, 4. `lent` tells whether each vector to be filled has 512 entries.
+fn tested(lent: bool, a: &[u16], y1: &[i16], y2: &[i16]) -> Outcome
+    ensures { λ r. ⌜ r ≡ testedBy lent (now (a .entry)) (now (y1 .entry)) (now (y2 .entry)) ⌝ }
+{
+    if !vectors::three_sized(a.len(), y1.len(), y2.len()) {
+        return Outcome::WrongLength;
+    }
+    if !lent {
         return Outcome::WrongLength;
     }
     if !vectors::all_below(a, Set::MODULUS as u16) {
@@ -33,7 +83,6 @@ fn commitment_for(s: Set, a: &[u16], y1: &[i16], y2: &[i16], out: &mut [u16]) ->
     if !are_masks(y1, y2) {
         return Outcome::MaskOutside;
     }
-    commit(s, a, y1, y2, out);
     Outcome::Done
 }
 
@@ -52,6 +101,15 @@ fn commit(s: Set, a: &[u16], y1: &[i16], y2: &[i16], out: &mut [u16])
     ensures { λ _. ⌜ now (out .exit) ≡ committed s (now (a .entry)) (now (y1 .entry)) (now (y2 .entry)) ⌝ }
 {
     make_sums(a, y1, y2, out);
+    round(s, out);
+}
+
+fn commit_with_rests(s: Set, a: &[u16], y1: &[i16], y2: &[i16], out: &mut [u16], rests: &mut [i16])
+    requires { ⌜ (length (now a) ≡ dimension) × (length (now y1) ≡ dimension) × (length (now y2) ≡ dimension) × (length (now out) ≡ dimension) × (length (now rests) ≡ dimension) ⌝ }
+    ensures { λ _. ⌜ (now (out .exit) ≡ committed s (now (a .entry)) (now (y1 .entry)) (now (y2 .entry))) × (now (rests .exit) ≡ restsOf s (now (a .entry)) (now (y1 .entry)) (now (y2 .entry))) ⌝ }
+{
+    make_sums(a, y1, y2, out);
+    take_rests(s, out, rests);
     round(s, out);
 }
 
@@ -82,6 +140,20 @@ fn round(s: Set, u: &mut [u16])
     let d = s.d();
     let p = s.p();
     for i in 0..Set::DIMENSION {
-        u[i] = rounding::upper_digits(s, d, p, u[i] as u32) as u16;
+        u[i] = rounding::round(s, d, p, u[i] as u32).digits as u16;
+    }
+}
+
+// The rests of u.
+fn take_rests(s: Set, u: &[u16], rests: &mut [i16])
+    requires { ⌜ (length (now u) ≡ dimension) × isReduced (now u) × (length (now rests) ≡ dimension) ⌝ }
+    ensures { λ _. ⌜ now (rests .exit) ≡ map (rest s) (now (u .entry)) ⌝ }
+{
+    let d = s.d();
+    let p = s.p();
+    for i in 0..Set::DIMENSION {
+        let r = rounding::round(s, d, p, u[i] as u32);
+        let rest = r.rest;
+        rests[i] = rest;
     }
 }

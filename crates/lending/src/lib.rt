@@ -63,6 +63,28 @@ pub fn commitment(
     bursztok::bursztok_commitment(set, a, y1, y2, &mut out[..lent])
 }
 
+pub fn commitment_with_rests(
+    set: u32,
+    a: &[u16],
+    y1: &[i16],
+    y2: &[i16],
+    out: &mut [u16],
+    count: usize,
+    rests: &mut [i16],
+    rests_count: usize,
+) -> Answer {
+    let lent = least(count, out.len());
+    let rests_lent = least(rests_count, rests.len());
+    bursztok::bursztok_commitment_with_rests(
+        set,
+        a,
+        y1,
+        y2,
+        &mut out[..lent],
+        &mut rests[..rests_lent],
+    )
+}
+
 pub fn respond(
     set: u32,
     f: &[i8],

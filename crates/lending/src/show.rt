@@ -25,6 +25,11 @@ pub fn answer(text: &[u8], r: Answer) {
 // A call with an output vector.
 pub fn filled(text: &[u8], r: Answer, out: &[u16]) {
     start(text, r);
+    digits(r, out);
+    print(b"\n");
+}
+
+fn digits(r: Answer, out: &[u16]) {
     if r.number == 0 {
         print(b", gives");
         runs(crate::first_whole(out, Set::DIMENSION));
@@ -35,7 +40,43 @@ pub fn filled(text: &[u8], r: Answer, out: &[u16]) {
             print(b", WRITTEN");
         }
     }
+}
+
+// The commitment with rests: of these the first six, and at how many of the 512 places the rest is 0.
+pub fn filled_with_rests(text: &[u8], r: Answer, out: &[u16], rests: &[i16]) {
+    start(text, r);
+    digits(r, out);
+    if r.number == 0 {
+        let row = crate::first_wide(rests, Set::DIMENSION);
+        print(b"; rests");
+        signed_entries(crate::first_wide(row, 6));
+        print(b" .., 0 at ");
+        number(count(row, 0));
+    } else {
+        if count(rests, OLD_ENTRY) == (rests.len() as u64) {
+            print(b", rests untouched");
+        } else {
+            print(b", rests WRITTEN");
+        }
+    }
     print(b"\n");
+}
+
+fn signed_entries(row: &[i16]) {
+    let mut i = 0;
+    while i < row.len() {
+        signed(row[i]);
+        i += 1;
+    }
+}
+
+fn signed(x: i16) {
+    if x < 0 {
+        print(b" -");
+    } else {
+        print(b" ");
+    }
+    number(vectors::size(x) as u64);
 }
 
 // A response to the list 0 to 22.

@@ -28,7 +28,7 @@ use Rattle.limits.specs.LengthRule.{lengthRule}
 use Rattle.vectors.specs.Vectors.{sized}
 use Rattle.keys.specs.Key.{isResidue, second}
 use Rattle.keys.proofs.Ranges.{a-residues}
-use Rattle.commitment.specs.Commitment.{areMasks, sums, committed, commitment}
+use Rattle.commitment.specs.Commitment.{areMasks, sums, committed, tested, commitment}
 use Rattle.commitment.proofs.Sums.{length-sums}
 use Rattle.vectors.specs.Pairs.{Pair, pair}
 use Rattle.choices.specs.Choices.{addedIf, choices}
@@ -151,7 +151,7 @@ module _ (set : ℕ) (s : Set) (known : askedOf set ≡ Known s) (a : List ℕ) 
   -- the commitment, where nothing is to be refused
   commitment-done : (y1 y2 : List ℤ) (out : List ℕ) → length y1 ≡ dimension → length y2 ≡ dimension → length out ≡ dimension → areMasks y1 y2 ≡ true
       → commitment set a y1 y2 out ≡ filled Done (committed s a y1 y2)
-  unfolding commitment
+  unfolding commitment tested
   commitment-done y1 y2 out ly1 ly2 lo masks =
       rw (known, sized-yes a la, sized-yes y1 ly1, sized-yes y2 ly2, sized-yes out lo, residues, masks)
 

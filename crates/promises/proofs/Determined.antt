@@ -8,10 +8,12 @@ use denote.Ref.{now}
 use lib.IntN.{ℤ}
 use Rattle.answers.specs.declared.Outcome.{Outcome}
 use Rattle.answers.specs.Outcomes.{Filled, filled}
-use Rattle.answers.proofs.Slots.{commitment-out, response-z1, response-z2, rebuild-out}
+use Rattle.answers.proofs.Slots.{commitment-out, with-rests-out, with-rests-rests, response-z1, response-z2, rebuild-out}
 use Rattle.signing.specs.Response.{Responded, responded}
 use Rattle.keys.proofs.key_test.Reads as keyTest
+use Rattle.commitment.specs.Commitment.{WithRests, withRests}
 use Rattle.commitment.proofs.commitment.Reads as commitment
+use Rattle.commitment.proofs.commitment_with_rests.Reads as with-rests
 use Rattle.signing.proofs.respond.Reads as respond
 use Rattle.checking.proofs.rebuild.Reads as rebuild
 use Rattle.checking.proofs.comparison.Reads as comparison
@@ -19,6 +21,11 @@ use Rattle.checking.proofs.comparison.Reads as comparison
 -- one equation fixes the outcome and the vector
 filled-parts : {o o′ : Outcome} {c c′ : List ℕ} (answer : Filled) → filled o c ≡ answer → filled o′ c′ ≡ answer → (o ≡ o′) × (c ≡ c′)
 filled-parts answer p q = (cc, cc)
+
+-- one equation fixes the outcome and both vectors
+with-rests-parts : {o o′ : Outcome} {x x′ : List ℕ} {y y′ : List ℤ} (answer : WithRests) → withRests o x y ≡ answer → withRests o′ x′ y′ ≡ answer
+    → (o ≡ o′) × (x ≡ x′) × (y ≡ y′)
+with-rests-parts answer p q = (cc, cc, cc)
 
 -- one equation fixes the outcome, the count and both vectors
 responded-parts : {o o′ : Outcome} {n n′ : ℕ} {x x′ y y′ : List ℤ} (answer : Responded) → responded o n x y ≡ answer → responded o′ n′ x′ y′ ≡ answer
@@ -31,6 +38,10 @@ key-test-determined κs a r r′ s s′ p q = p ∙ sym q
 pub commitment-determined : (κs : Lfts 4) (a : _) (r r′ : _) (s s′ : _) → commitment.Post κs a r s → commitment.Post κs a r′ s′
     → (r ≡ r′) × (now (commitment-out s) ≡ now (commitment-out s′))
 commitment-determined κs a r r′ s s′ p q = filled-parts _ p q
+
+pub commitment-with-rests-determined : (κs : Lfts 5) (a : _) (r r′ : _) (s s′ : _) → with-rests.Post κs a r s → with-rests.Post κs a r′ s′
+    → (r ≡ r′) × (now (with-rests-out s) ≡ now (with-rests-out s′)) × (now (with-rests-rests s) ≡ now (with-rests-rests s′))
+commitment-with-rests-determined κs a r r′ s s′ p q = with-rests-parts _ p q
 
 pub response-determined : (κs : Lfts 10) (a : _) (r r′ : _) (s s′ : _) → respond.Post κs a r s → respond.Post κs a r′ s′
     → (r .outcome ≡ r′ .outcome) × (r .words ≡ r′ .words)

@@ -1,7 +1,7 @@
 -- What holds across the calls, proved. The statements are in specs/; each theorem has its statement's name.
 -- `Passed`: what an answer that is done tells of the tests before it. `Keys`: a key that passes the key test. `Signatures`: a signature that was given out.
 -- `Sums`: the sums of signer and checker modulo 2q. `Daggers`: what z2 dagger restores. `Agreement`: demand 3. `Trials`: the numbers of the draw's trials.
--- `Refusals`: demand 1. `Determined`: one result for each call. `Published`, `Greedy`: the algorithms of document 004.
+-- `Refusals`: demand 1. `Determined`: one result for each call. `Published`, `Greedy`: the algorithms of document 004. `Rests`: the commitment with rests.
 pub mod Passed
 pub mod Keys
 pub mod Sums
@@ -13,3 +13,4 @@ pub mod Refusals
 pub mod Determined
 pub mod Published
 pub mod Greedy
+pub mod Rests

@@ -18,7 +18,7 @@ use Rattle.answers.specs.Outcomes.{numberOf, forSet, Filled, filled}
 use Rattle.answers.proofs.Calls.{zero-is}
 use Rattle.limits.specs.LengthRule.{entries, lengthRule}
 use Rattle.keys.specs.Key.{properKey}
-use Rattle.commitment.specs.Commitment.{commitment}
+use Rattle.commitment.specs.Commitment.{commitment, Outputs, WithRests, withRests, commitmentWithRests}
 use Rattle.draw.specs.declared.Ending.{Ending}
 use Rattle.draw.specs.declared.Ending.the-variants.{Accepted, Rejected, OutOfWords}
 use Rattle.draw.specs.Draw.{afterWalk}
@@ -29,7 +29,7 @@ use Rattle.record_forms.specs.declared.Header.the-variants.{States, Malformed}
 use Rattle.record_forms.specs.Headers.{opened}
 use Rattle.records.specs.Writer.{writingFor, writingOf}
 use Rattle.records.specs.Reader.{Found, found, readingFor, readingOf}
-use Rattle.promises.specs.Demands.{OnlyDone, CommitmentKeeps, RebuildKeeps, ResponseKeeps, WriterKeeps, ReaderKeeps, ResponseCounts}
+use Rattle.promises.specs.Demands.{OnlyDone, CommitmentKeeps, CommitmentWithRestsKeeps, RebuildKeeps, ResponseKeeps, WriterKeeps, ReaderKeeps, ResponseCounts}
 
 pub only-done : OnlyDone
 only-done = (refl, zero-is)
@@ -86,6 +86,22 @@ commitment-holds set a y1 y2 out = search (ways, ends)
 
 pub commitment-keeps : CommitmentKeeps
 commitment-keeps set a y1 y2 out o after e = subst (Keeps filledAnswer filledLeft out) e (commitment-holds set a y1 y2 out .is)
+
+-- the digits and the rests
+abbrev restsAnswer : WithRests → Outcome
+restsAnswer (withRests o digits rests) = o
+
+abbrev restsLeft : WithRests → List ℕ × List ℤ
+restsLeft (withRests o digits rests) = (digits, rests)
+
+with-rests-holds : (set : ℕ) (a : List ℕ) (y1 y2 : List ℤ) (old : Outputs) → Holds (Keeps restsAnswer restsLeft (old .digits, old .rests)) (commitmentWithRests set a y1 y2 old)
+unfolding commitmentWithRests
+with-rests-holds set a y1 y2 old = search (ways, ends)
+
+pub commitment-with-rests-keeps : CommitmentWithRestsKeeps
+commitment-with-rests-keeps set a y1 y2 old o digits rests e n =
+    let same = subst (Keeps restsAnswer restsLeft (old .digits, old .rests)) e (with-rests-holds set a y1 y2 old .is) n in
+    (ap (λ (x : List ℕ × List ℤ). x .0) same, ap (λ (x : List ℕ × List ℤ). x .1) same)
 
 rebuild-holds : (set : ℕ) (a : List ℕ) (c : Claim) (out : List ℕ) → Holds (Keeps filledAnswer filledLeft out) (rebuild set a c out)
 unfolding rebuild

@@ -15,7 +15,7 @@ use Rattle.answers.specs.Outcomes.{numberOf, Filled, filled}
 use Rattle.vectors.specs.Pairs.{pair, squaresPair}
 use Rattle.vectors.specs.Places.{properList}
 use Rattle.keys.specs.Key.{keyTest}
-use Rattle.commitment.specs.Commitment.{areMasks, committed, commitment}
+use Rattle.commitment.specs.Commitment.{areMasks, committed, commitment, Outputs, withRests, commitmentWithRests}
 use Rattle.choices.specs.Choices.{choices}
 use Rattle.masking.specs.Masking.{masked, firstTrial, secondTrial}
 use Rattle.signing.specs.Response.{Lent, secret, drawing, responded, drawn, response}
@@ -35,6 +35,14 @@ CommitmentKeeps =
     → commitment set a y1 y2 out ≡ filled o after
     → (numberOf o ≡ 0 → ⊥)
     → after ≡ out
+
+-- both vectors of the commitment with rests
+abbrev pub CommitmentWithRestsKeeps : Type 0
+CommitmentWithRestsKeeps =
+    (set : ℕ) (a : List ℕ) (y1 y2 : List ℤ) (old : Outputs) (o : Outcome) (digits : List ℕ) (rests : List ℤ)
+    → commitmentWithRests set a y1 y2 old ≡ withRests o digits rests
+    → (numberOf o ≡ 0 → ⊥)
+    → (digits ≡ old .digits) × (rests ≡ old .rests)
 
 -- the rebuild's vector
 abbrev pub RebuildKeeps : Type 0

@@ -33,7 +33,7 @@ pub fn replay(fd: i32) {
     tally::print(&counts);
 }
 
-// The number of entries; 0 where the letters are not BLVECT01.
+// The number of entries; 0 where the letters are not BLVECT02.
 fn stated(fd: i32) -> u32 {
     let mut bytes = [0u8; 16];
     let got = io::read_full(fd, &mut bytes);
@@ -51,7 +51,7 @@ fn stated(fd: i32) -> u32 {
 fn opens(bytes: &[u8]) -> bool
     requires { ⌜ length (now bytes) ≡ 16 ⌝ }
 {
-    let letters = b"BLVECT01";
+    let letters = b"BLVECT02";
     let mut i = 0;
     while i < 8 {
         if bytes[i] != letters[i] {
@@ -64,7 +64,7 @@ fn opens(bytes: &[u8]) -> bool
 
 // One entry: a load, a patch or a call. False where it is none.
 fn entry(fd: i32, memory: &mut [u8], counts: &mut [u32], said: &mut [u32]) -> bool
-    requires { ⌜ (length (now memory) ≡ 36864) × (length (now counts) ≡ 176) ⌝ }
+    requires { ⌜ (length (now memory) ≡ 38912) × (length (now counts) ≡ 192) ⌝ }
 {
     let mut bytes = [0u8; 8];
     let got = io::read_full(fd, &mut bytes);
@@ -86,7 +86,7 @@ fn entry(fd: i32, memory: &mut [u8], counts: &mut [u32], said: &mut [u32]) -> bo
 
 // The elements go to the slot's bytes, and a load sets the slot's length.
 fn load(fd: i32, h: Head, memory: &mut [u8]) -> bool
-    requires { ⌜ length (now memory) ≡ 36864 ⌝ }
+    requires { ⌜ length (now memory) ≡ 38912 ⌝ }
 {
     let slot = h.which as usize;
     let from = scaled(h.width, h.start);
@@ -94,7 +94,7 @@ fn load(fd: i32, h: Head, memory: &mut [u8]) -> bool
     if slot < 1 {
         return false;
     }
-    if 17 < slot {
+    if 18 < slot {
         return false;
     }
     if slots::ROOM < from + count {
@@ -132,11 +132,11 @@ fn scaled(width: u8, count: u16) -> usize
 }
 
 fn called(fd: i32, which: u8, memory: &[u8], counts: &mut [u32], said: &mut [u32]) -> bool
-    requires { ⌜ (length (now memory) ≡ 36864) × (length (now counts) ≡ 176) ⌝ }
+    requires { ⌜ (length (now memory) ≡ 38912) × (length (now counts) ≡ 192) ⌝ }
 {
-    let mut bytes = [0u8; 26];
+    let mut bytes = [0u8; 28];
     let got = io::read_full(fd, &mut bytes);
-    if got != 26 {
+    if got != 28 {
         return false;
     }
     let k = wanted::asked_in(&bytes);
@@ -148,9 +148,9 @@ fn called(fd: i32, which: u8, memory: &[u8], counts: &mut [u32], said: &mut [u32
     true
 }
 
-// A call that did as wanted; only calls 1 to 10 do, with numbers below 16.
+// A call that did as wanted; only calls 1 to 11 do, with numbers below 16.
 fn count(which: u8, number: u32, counts: &mut [u32])
-    requires { ⌜ length (now counts) ≡ 176 ⌝ }
+    requires { ⌜ length (now counts) ≡ 192 ⌝ }
 {
     let at = 16 * (which as usize) + (number as usize) % 16;
     if at < tally::COUNTS {
@@ -159,7 +159,7 @@ fn count(which: u8, number: u32, counts: &mut [u32])
 }
 
 fn missed(which: u8, k: Asked, counts: &mut [u32])
-    requires { ⌜ length (now counts) ≡ 176 ⌝ }
+    requires { ⌜ length (now counts) ≡ 192 ⌝ }
 {
     tally::text(b"call ");
     tally::number(which as u64);

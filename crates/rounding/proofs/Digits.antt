@@ -1,41 +1,55 @@
--- Upper digits by their steps, and the residues and centred numbers modulo p. Assumes nothing.
+-- Upper digits by their steps, the parts of what rounding answers, and the residues and centred numbers modulo p. Assumes nothing.
 use mathlib.Core.Path.{_≡_, refl, sym, ap, _∙_}
 use mathlib.Core.List.{[], _∷_}
 use Prim.Native.Nat.{ℕ, suc, _+_, _*_, _-_, _/_, _%_, _^_, _<_, _≤_}
 use native.Mathlib.Nat.{div-lt-iff-lt-mul, suc-mul, mod-lt, mod-eq-of-lt, mod-self}
 use native.Mathlib.Omega.{arith}
-use lib.IntN.{ℤ, pos, _+ℤ_, _-ℤ_, _*ℤ_}
+use lib.IntN.{ℤ, pos, natAbs, _+ℤ_, _-ℤ_, _*ℤ_}
 use Rattle.laws.specs.Integers.{residue}
-use Rattle.laws.proofs.Linear.{le-out, lt-out, eq-out, sum, difference, opposite}
+use Rattle.laws.proofs.Linear.{le-in, lt-in, le-out, lt-out, eq-out, size-le, sum, difference, opposite}
 use Rattle.laws.proofs.Congruence.{Cong, cong-eq, cong-trans, cong-multiple, residue-is, residue-small, residue-same, residue-cong, cong-sym, cong-add, cong-refl, cong-mod}
 use Rattle.laws.proofs.Solver.{v, k, _⊕_, _⊗_, ring}
 use Rattle.sets.specs.declared.Set.{Set}
 use Rattle.sets.specs.Numbers.{twiceModulus, dOf, pOf}
-use Rattle.sets.proofs.Alike.{spread, step-at-least-256, p-positive, p-even}
-use Rattle.rounding.specs.Rounding.{upper, centred}
-use Rattle.rounding.proofs.Laws.{halves, quotient-nearest, upper-is-nearest, centred-alone}
+use Rattle.sets.proofs.Alike.{spread, step-at-least-256, step-small, p-positive, p-even}
+use Rattle.rounding.specs.declared.Rounded.{Rounded}
+use Rattle.rounding.specs.Rounding.{quotient, upper, rest, centred}
+use Rattle.rounding.proofs.Laws.{halves, quotient-nearest, upper-is-nearest, rest-range, centred-alone}
 
 -- the steps of a reduced number are at most p
 module _ (s : Set) (x : ℕ) (small : x < twiceModulus) where
-  abbrev steps : ℕ
-  steps = (x + 2 ^ (dOf s - 1)) / 2 ^ dOf s
-
-  steps-le : steps < suc (pOf s)
-  steps-le =
+  pub quotient-le : quotient s x < suc (pOf s)
+  unfolding quotient
+  quotient-le =
       let h : 0 < 2 ^ dOf s = omega (arith, step-at-least-256 s) in
       div-lt-iff-lt-mul h .1 (omega (arith, spread s, step-at-least-256 s, halves s, suc-mul (pOf s) (2 ^ dOf s)))
 
-  upper-steps : upper s x ≡ steps % pOf s
-  upper-steps = upper-is-nearest s x steps (quotient-nearest s x)
+  upper-steps : upper s x ≡ quotient s x % pOf s
+  upper-steps = upper-is-nearest s x (quotient s x) (quotient-nearest s x)
 
   -- at p steps the remainder by p is 0
-  pub upper-last : steps ≡ pOf s → 0 ≡ upper s x
+  pub upper-last : quotient s x ≡ pOf s → 0 ≡ upper s x
   upper-last e = sym (upper-steps ∙ ap (λ (n : ℕ). n % pOf s) e ∙ mod-self (pOf s))
 
-  pub upper-inner : (steps ≡ pOf s → ⊥) → steps ≡ upper s x
+  pub upper-inner : (quotient s x ≡ pOf s → ⊥) → quotient s x ≡ upper s x
   upper-inner n =
-      let h : steps < pOf s = omega (arith, steps-le) in
+      let h : quotient s x < pOf s = omega (arith, quotient-le) in
       sym (upper-steps ∙ mod-eq-of-lt h)
+
+-- a rest is at most half a step, and so fits
+pub rest-small : (s : Set) (x : ℕ) → natAbs (rest s x) ≤ 512
+rest-small s x =
+    let r = rest-range s x in
+    let half : 2 ^ (dOf s - 1) ≤ 512 = omega (arith, halves s, step-small s) in
+    size-le (rest s x) 512 (omega (arith, lt-in (r .1), half)) (omega (arith, le-in (r .0), opposite (pos (2 ^ (dOf s - 1))), half))
+
+-- the parts of what rounding answers
+module _ {r a : Rounded} (e : r ≡ a) where
+  pub digits-are : r .digits ≡ a .digits
+  digits-are = ap (λ (y : Rounded). y .digits) e
+
+  pub rest-is : r .rest ≡ a .rest
+  rest-is = ap (λ (y : Rounded). y .rest) e
 
 -- ---- modulo p
 

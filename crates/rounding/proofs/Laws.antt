@@ -1,5 +1,5 @@
--- Upper digits count the nearest step; the centred number is the one in -p/2 .. p/2 - 1 that is congruent. Over d and p, for every set alike. Everything else
--- about the two is proved from these laws. Assumes nothing.
+-- Upper digits count the nearest step, the rest is what lies above it, and the centred number is the one in -p/2 .. p/2 - 1 that is congruent. Over d and p, for
+-- every set alike. Everything else about the three is proved from these laws. Assumes nothing.
 use mathlib.Core.Path.{_≡_, refl, ap, _∙_}
 use mathlib.Core.List.{[], _∷_}
 use Prim.Native.Nat.{ℕ, suc, _+_, _*_, _-_, _/_, _%_, _^_, _<_, _≤_}
@@ -9,14 +9,14 @@ use lib.Dec.{ltb, ltb→lt, nltb→le}
 use lib.IntN.{ℤ, pos, negℤ, _+ℤ_, _-ℤ_, _*ℤ_}
 use Rattle.laws.specs.Integers.{residue}
 use Rattle.laws.proofs.Bounds.{cond-ind}
-use Rattle.laws.proofs.Linear.{above, under, le-in, lt-in, le-out, lt-out, eq-out, sum, difference, opposite}
+use Rattle.laws.proofs.Linear.{above, under, le-in, lt-in, eq-in, le-out, lt-out, eq-out, sum, difference, opposite}
 use Rattle.laws.proofs.Congruence.{Cong, cong-eq, cong-refl, cong-sym, cong-trans, cong-add, cong-unique, residue-lt, residue-cong}
 use Rattle.laws.proofs.Solver.{v, k, _⊕_, _⊗_, neg, ring}
 use Rattle.sets.specs.declared.Set.{Set}
 use Rattle.sets.specs.Numbers.{dOf, pOf}
 use Rattle.sets.proofs.Alike.{d-at-least-8, step-at-least-256, p-positive, p-even}
-use Rattle.rounding.specs.Rounding.{upper, halfOf, centred}
-use Rattle.rounding.specs.Laws.{nearest, NearestStep, UpperIsNearest, UpperBelow, isCentred, CentredRange, CentredCongruent, CentredAlone, HalfCentred}
+use Rattle.rounding.specs.Rounding.{quotient, upper, rest, halfOf, centred}
+use Rattle.rounding.specs.Laws.{nearest, QuotientNearest, QuotientAlone, UpperIsNearest, UpperBelow, RestRange, RestCompletes, RestAlone, isCentred, CentredRange, CentredCongruent, CentredAlone, HalfCentred}
 
 -- ---- upper digits
 
@@ -26,24 +26,55 @@ halves s =
     let e : dOf s ≡ suc (dOf s - 1) = omega (arith, d-at-least-8 s) in
     ap (λ (n : ℕ). 2 ^ n) e ∙ two-pow-succ (dOf s - 1)
 
--- the number of the nearest step is a quotient
-pub quotient-nearest : (s : Set) (x : ℕ) → nearest s x ((x + 2 ^ (dOf s - 1)) / 2 ^ dOf s)
+pub quotient-nearest : QuotientNearest
+unfolding quotient
 quotient-nearest s x =
     let y : ℕ = x + 2 ^ (dOf s - 1) in
     let positive : 0 < 2 ^ dOf s = omega (arith, step-at-least-256 s) in
     (mul-div-le y (2 ^ dOf s), omega (arith, halves s, lt-mul-div-succ y positive))
 
-pub nearest-step : NearestStep
-nearest-step s x = (_, quotient-nearest s x)
+pub quotient-alone : QuotientAlone
+unfolding quotient
+quotient-alone s x n h = div-eq-of-lt-le (2 ^ dOf s) (omega arith) (omega (arith, halves s))
 
 pub upper-is-nearest : UpperIsNearest
 unfolding upper
-upper-is-nearest s x n h =
-    ap (λ (m : ℕ). m % pOf s) (div-eq-of-lt-le (2 ^ dOf s) (omega arith) (omega (arith, halves s)))
+upper-is-nearest s x n h = ap (λ (m : ℕ). m % pOf s) (quotient-alone s x n h)
 
 pub upper-below : UpperBelow
 unfolding upper
 upper-below s x = mod-lt _ (p-positive s)
+
+-- ---- rests
+module _ (s : Set) (x : ℕ) where
+  abbrev stepped : ℕ
+  stepped = 2 ^ dOf s * quotient s x
+
+pub rest-range : RestRange
+unfolding rest
+rest-range s x =
+    let d = difference (pos x) (pos (stepped s x)) in
+    let near = quotient-nearest s x in
+    (le-out (omega (arith, d, near, opposite (pos (2 ^ (dOf s - 1))))), lt-out (omega (arith, d, near)))
+
+pub rest-completes : RestCompletes
+unfolding rest
+rest-completes s x =
+    let r : ℤ = pos x -ℤ pos (stepped s x) in
+    eq-out (pos x) (pos (stepped s x) +ℤ r) (omega (arith, difference (pos x) (pos (stepped s x)), sum (pos (stepped s x)) r))
+
+pub rest-alone : RestAlone
+rest-alone s x n r h e =
+    let half = opposite (pos (2 ^ (dOf s - 1))) in
+    let total = eq-in e in
+    let parts = sum (pos (2 ^ dOf s * n)) r in
+    let one : quotient s x ≡ n =
+    quotient-alone s x n (omega (arith, total, parts, half, le-in (h .0)), omega (arith, total, parts, lt-in (h .1))) in
+    let mine = eq-in (rest-completes s x) in (
+      one,
+      eq-out (rest s x) r
+          (omega (arith, total, parts, mine, sum (pos (stepped s x)) (rest s x), ap (λ (m : ℕ). 2 ^ dOf s * m) one)),
+    )
 
 -- ---- centring
 module _ (s : Set) (z : ℤ) where

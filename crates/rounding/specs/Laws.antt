@@ -1,11 +1,11 @@
--- What upper digits and centring are, without their formulas (01, "Ring arithmetic"); proofs/Laws.antt has a theorem of each statement's name.
+-- What upper digits, rests and centring are, without their formulas (01, "Ring arithmetic"; 02, C-20); proofs/Laws.antt has a theorem of each statement's name.
 use mathlib.Core.Path.{_≡_}
 use Prim.Native.Nat.{ℕ, _+_, _*_, _-_, _/_, _%_, _^_, _<_, _≤_}
 use lib.IntN.{ℤ, pos, negℤ, _+ℤ_, _*ℤ_}
 use lib.Signed.{_≤ℤ_, _<ℤ_}
 use Rattle.sets.specs.declared.Set.{Set}
 use Rattle.sets.specs.Numbers.{dOf, pOf}
-use Rattle.rounding.specs.Rounding.{upper, centred}
+use Rattle.rounding.specs.Rounding.{quotient, upper, rest, centred}
 
 -- ---- upper digits
 
@@ -13,16 +13,37 @@ use Rattle.rounding.specs.Rounding.{upper, centred}
 abbrev pub nearest : Set → ℕ → ℕ → Type 0
 nearest s x n = (2 ^ dOf s * n ≤ x + 2 ^ (dOf s - 1)) × (x < 2 ^ dOf s * n + 2 ^ (dOf s - 1))
 
--- each x has such an n
-abbrev pub NearestStep : Type 0
-NearestStep = (s : Set) (x : ℕ) → (n : ℕ) × nearest s x n
+-- the quotient of x is such an n
+abbrev pub QuotientNearest : Type 0
+QuotientNearest = (s : Set) (x : ℕ) → nearest s x (quotient s x)
 
--- whose remainder by p is the upper digits of x
+-- there is no other
+abbrev pub QuotientAlone : Type 0
+QuotientAlone = (s : Set) (x n : ℕ) → nearest s x n → quotient s x ≡ n
+
+-- its remainder by p is the upper digits of x
 abbrev pub UpperIsNearest : Type 0
 UpperIsNearest = (s : Set) (x n : ℕ) → nearest s x n → upper s x ≡ n % pOf s
 
 abbrev pub UpperBelow : Type 0
 UpperBelow = (s : Set) (x : ℕ) → upper s x < pOf s
+
+-- ---- rests
+
+-- r lies in -2^(d-1) .. 2^(d-1) - 1
+abbrev pub isRest : Set → ℤ → Type 0
+isRest s r = (negℤ (pos (2 ^ (dOf s - 1))) ≤ℤ r) × (r <ℤ pos (2 ^ (dOf s - 1)))
+
+abbrev pub RestRange : Type 0
+RestRange = (s : Set) (x : ℕ) → isRest s (rest s x)
+
+-- x is 2^d times its quotient, and its rest
+abbrev pub RestCompletes : Type 0
+RestCompletes = (s : Set) (x : ℕ) → pos x ≡ pos (2 ^ dOf s * quotient s x) +ℤ rest s x
+
+-- there are no other such two numbers
+abbrev pub RestAlone : Type 0
+RestAlone = (s : Set) (x n : ℕ) (r : ℤ) → isRest s r → pos x ≡ pos (2 ^ dOf s * n) +ℤ r → (quotient s x ≡ n) × (rest s x ≡ r)
 
 -- ---- centring
 

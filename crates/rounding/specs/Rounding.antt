@@ -1,4 +1,4 @@
--- Upper digits, centring, and the sums that are rounded (01, "Ring arithmetic", "Commitment", "Response", "Rebuild"). d and p are those of a set.
+-- Upper digits, rests, centring, and the sums that are rounded (01, "Ring arithmetic", "Commitment", "Response", "Rebuild"; 02, C-20). d and p are those of a set.
 use mathlib.Core.Bool.{cond}
 use Prim.Native.Nat.{ℕ, _+_, _*_, _-_, _/_, _%_, _^_}
 use lib.Dec.{ltb}
@@ -6,10 +6,23 @@ use lib.IntN.{ℤ, pos, _+ℤ_, _-ℤ_}
 use Rattle.laws.specs.Integers.{residue}
 use Rattle.sets.specs.declared.Set.{Set}
 use Rattle.sets.specs.Numbers.{twiceModulus, factor, dOf, pOf}
+use Rattle.rounding.specs.declared.Rounded.{Rounded}
 
--- upper digits, for x in 0 .. 24577: add 2^(d-1), divide by 2^d rounding down, then take the remainder by p
+-- the rounded quotient, for x in 0 .. 24577: add 2^(d-1), divide by 2^d rounding down
+unfoldable pub quotient : Set → ℕ → ℕ
+quotient s x = (x + 2 ^ (dOf s - 1)) / 2 ^ dOf s
+
+-- upper digits: the quotient's remainder by p
 unfoldable pub upper : Set → ℕ → ℕ
-upper s x = (x + 2 ^ (dOf s - 1)) / 2 ^ dOf s % pOf s
+upper s x = quotient s x % pOf s
+
+-- the rest: x minus 2^d times the quotient, before the remainder by p
+unfoldable pub rest : Set → ℕ → ℤ
+rest s x = pos x -ℤ pos (2 ^ dOf s * quotient s x)
+
+-- what rounding answers: both
+abbrev pub rounded : Set → ℕ → Rounded
+rounded s x = record { digits = upper s x; rest = rest s x }
 
 -- the residue from which on p is taken off
 abbrev pub halfOf : Set → ℕ

@@ -1,4 +1,4 @@
-// Rounding: upper digits, centring modulo p, and the sums that are rounded (01, "Ring arithmetic").
+// Rounding: upper digits and rests, centring modulo p, and the sums that are rounded (01, "Ring arithmetic"; 02, C-20).
 // A number is reduced modulo 24578 before it is rounded, always: 25,089 reduces to 511, whose upper digits are 0 at d = 10; rounded first it gives 1.
 // So what is rounded has to be below 24578, by a `requires`.
 // A set's d and p are asked once, by the caller, and not in its loop: the compiler vectorises no loop that has a `match` in it. The set itself is lent for the
@@ -8,16 +8,33 @@ ghost use Prim.Native.Nat.{_+_, _*_, _^_, _<_};
 ghost use lib.IntN.{pos, natAbs, _+ℤ_, _-ℤ_};
 ghost use Rattle.laws.specs.Integers.{residue};
 ghost use Rattle.sets.specs.Numbers.{twiceModulus, dOf, pOf};
-ghost use Rattle.rounding.specs.Rounding.{upper, centred, summed, dagger as daggerOf, restored as restoredOf};
+ghost use Rattle.rounding.specs.Rounding.{rounded, centred, summed, dagger as daggerOf, restored as restoredOf};
 use sets::Set;
 
-// The upper digits of a reduced x. With 2^(d-1) added it is below p + 1 steps, so the remainder by p is 0 at p and the number itself below.
-pub fn upper_digits(s: Set, d: u32, p: u32, x: u32) -> u32
+// The upper digits of a number, and what is left of it.
+pub struct Rounded {
+    pub digits: u32,
+    pub rest: i16,
+}
+
+// A reduced x, rounded. With 2^(d-1) added it is below p + 1 steps, so the remainder by p is 0 at p and the number itself below. The rest is what x has above
+// all of its steps, p of them too.
+pub fn round(s: Set, d: u32, p: u32, x: u32) -> Rounded
     requires { ⌜ (d ≡ dOf s) × (p ≡ pOf s) × (x < twiceModulus) ⌝ }
-    ensures { λ r. ⌜ r ≡ upper s x ⌝ }
+    ensures { λ r. ⌜ r ≡ rounded s x ⌝ }
 {
-    let steps = (x + (1 << (d - 1))) >> d;
-    if steps == p { 0 } else { steps }
+    let raised = x + (1 << (d - 1));
+    let steps = raised >> d;
+    let whole = x as i16;
+    let rest = whole - ((steps << d) as i16);
+    if steps == p {
+        Rounded { digits: 0, rest }
+    } else {
+        Rounded {
+            digits: steps,
+            rest,
+        }
+    }
 }
 
 // x modulo p, of x below 2p.
@@ -71,9 +88,9 @@ pub fn dagger(s: Set, d: u32, p: u32, u: u32, z: i16) -> i8
     requires { ⌜ (d ≡ dOf s) × (p ≡ pOf s) × (u < twiceModulus) ⌝ }
     ensures { λ r. ⌜ r ≡ daggerOf s u z ⌝ }
 {
-    let whole = upper_digits(s, d, p, u);
-    let rest = upper_digits(s, d, p, difference(u, z));
-    centre(s, p, wrap(p, whole + p - rest))
+    let whole = round(s, d, p, u);
+    let below = round(s, d, p, difference(u, z));
+    centre(s, p, wrap(p, whole.digits + p - below.digits))
 }
 
 // z + p, of z2 dagger within p: above 0, and below 2p.
@@ -90,5 +107,5 @@ pub fn restored(s: Set, d: u32, p: u32, w: u32, z: i8) -> u16
     ensures { λ r. ⌜ r ≡ restoredOf s w z ⌝ }
 {
     let moved = wrap(p, raise(p, z));
-    wrap(p, upper_digits(s, d, p, w) + moved) as u16
+    wrap(p, round(s, d, p, w).digits + moved) as u16
 }

@@ -1,4 +1,4 @@
-// The commitment.
+// The commitment, and below each case the commitment with rests (02, C-20) of the same input.
 use lending::show;
 use sets::Set;
 
@@ -10,7 +10,7 @@ pub fn run() {
     faults();
 }
 
-// The table of upper digits: a = 0, so u = y2 modulo 24578.
+// The table of upper digits, and the rests: a = 0, so u = y2 modulo 24578. 24577 is one above p steps.
 fn digits() {
     show::heading(b"commitment, a = 0: upper digits of u at places 0 to 4");
     first_five(
@@ -50,6 +50,20 @@ fn products() {
     one(b"t = 1: u = 12288", 1, 1, 1, 0);
     one(b"t = 2: u = 24576", 1, 1, 2, 0);
     one(b"t = 2, y2 = 513: 25089 reduces to 511", 1, 1, 2, 513);
+    one(
+        b"d = 9, t = 2, y2 = 257: 24833 reduces to 255",
+        3,
+        1,
+        2,
+        257,
+    );
+    one(
+        b"d = 8, t = 2, y2 = 129: 24705 reduces to 127",
+        4,
+        1,
+        2,
+        129,
+    );
     one(b"t = 12288 from y1 = -1: u = 12290", 1, 1, -1, 0);
     one(b"a = 12288, y1 = -1: t = 1", 1, 12288, -1, 0);
     show::heading(
@@ -88,6 +102,12 @@ fn lengths() {
     sized(b"output 0 long", 512, 512, 512, 0);
     sized(b"output 511 long", 512, 512, 512, 511);
     sized(b"output 513 long", 512, 512, 512, 513);
+    show::heading(b"commitment with rests: lengths of its two outputs, a mask of 4097 besides");
+    lent(b"rests 0 long", 512, 0);
+    lent(b"rests 511 long", 512, 511);
+    lent(b"rests 513 long", 512, 513);
+    lent(b"output 511 long, rests 513 long", 511, 513);
+    lent(b"neither", 512, 512);
 }
 
 // Several faults at once: the first in the order 1, 2, 3, 4. Every mask coefficient is beyond the limit.
@@ -148,9 +168,42 @@ fn masked(text: &[u8], set: u32, out_len: usize, first: u16) {
     shown(text, set, &a, &y1, &y2, out_len);
 }
 
-// With so many entries of an output vector.
+fn lent(text: &[u8], out_len: usize, rests_len: usize) {
+    let a = [0u16; Set::DIMENSION];
+    let y1 = [0i16; Set::DIMENSION];
+    let mut y2 = [0i16; Set::DIMENSION];
+    y2[511] = 4097;
+    with_rests(text, 1, &a, &y1, &y2, out_len, rests_len);
+}
+
+// Both calls, with so many entries of an output vector.
 fn shown(text: &[u8], set: u32, a: &[u16], y1: &[i16], y2: &[i16], out_len: usize) {
     let mut out = [show::OLD; 513];
     let r = lending::commitment(set, a, y1, y2, &mut out, out_len);
     show::filled(text, r, &out);
+    with_rests(b"  with rests", set, a, y1, y2, out_len, 512);
+}
+
+fn with_rests(
+    text: &[u8],
+    set: u32,
+    a: &[u16],
+    y1: &[i16],
+    y2: &[i16],
+    out_len: usize,
+    rests_len: usize,
+) {
+    let mut out = [show::OLD; 513];
+    let mut rests = [show::OLD_ENTRY; 513];
+    let r = lending::commitment_with_rests(
+        set,
+        a,
+        y1,
+        y2,
+        &mut out,
+        out_len,
+        &mut rests,
+        rests_len,
+    );
+    show::filled_with_rests(text, r, &out, &rests);
 }

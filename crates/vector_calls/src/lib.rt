@@ -1,4 +1,4 @@
-// For the program replay: the ten calls on the slots, and whether each answers and leaves behind what is wanted.
+// For the program replay: the calls on the slots, and whether each answers and leaves behind what is wanted.
 ghost use mathlib.Core.Path.{_≡_};
 ghost use Prim.Native.Nat.{_<_};
 ghost use lib.ListN.{length};
@@ -12,6 +12,7 @@ use lending::first_whole;
 use lending::first_wide;
 use sets::Set;
 use vector_slots::left::is_left_whole;
+use vector_slots::left::is_left_wide;
 use vector_slots::left::is_pair;
 use vector_slots::left::once;
 use vector_slots::left::whole_fill;
@@ -23,9 +24,9 @@ use vector_slots::wanted::Asked;
 use vector_slots::wanted::is_left;
 use vector_slots::wanted::is_wanted;
 
-// The call of this number, 1 to 10. Of a signature that is given out it counts in `said` what the checker says.
+// The call of this number, 1 to 11. Of a signature that is given out it counts in `said` what the checker says.
 pub fn call(memory: &[u8], which: u8, k: Asked, said: &mut [u32]) -> bool
-    requires { ⌜ length (now memory) ≡ 36864 ⌝ }
+    requires { ⌜ length (now memory) ≡ 38912 ⌝ }
 {
     match which {
         1 => key_test(memory, k),
@@ -36,12 +37,13 @@ pub fn call(memory: &[u8], which: u8, k: Asked, said: &mut [u32]) -> bool
         6 => write(memory, k),
         7 => read(memory, k),
         8 | 9 | 10 => section(memory, which, k),
+        11 => commitment_with_rests(memory, k),
         _ => false,
     }
 }
 
 fn key_test(memory: &[u8], k: Asked) -> bool
-    requires { ⌜ length (now memory) ≡ 36864 ⌝ }
+    requires { ⌜ length (now memory) ≡ 38912 ⌝ }
 {
     let f = slots::narrow(memory, 1);
     let g = slots::narrow(memory, 2);
@@ -54,7 +56,7 @@ fn key_test(memory: &[u8], k: Asked) -> bool
 }
 
 fn commitment(memory: &[u8], k: Asked) -> bool
-    requires { ⌜ length (now memory) ≡ 36864 ⌝ }
+    requires { ⌜ length (now memory) ≡ 38912 ⌝ }
 {
     let mut out = [whole_fill(k.fill); ENTRIES];
     let r = committed(memory, k, &mut out);
@@ -62,7 +64,7 @@ fn commitment(memory: &[u8], k: Asked) -> bool
 }
 
 fn committed(memory: &[u8], k: Asked, out: &mut [u16]) -> Answer
-    requires { ⌜ length (now memory) ≡ 36864 ⌝ }
+    requires { ⌜ length (now memory) ≡ 38912 ⌝ }
 {
     let a = slots::whole(memory, 3);
     let y1 = slots::wide(memory, 4);
@@ -73,8 +75,41 @@ fn committed(memory: &[u8], k: Asked, out: &mut [u16]) -> Answer
     lending::commitment(k.set, a_lent, y1_lent, y2_lent, out, once(k.rounded))
 }
 
+fn commitment_with_rests(memory: &[u8], k: Asked) -> bool
+    requires { ⌜ length (now memory) ≡ 38912 ⌝ }
+{
+    let mut out = [whole_fill(k.fill); ENTRIES];
+    let mut rests = [wide_fill(k.fill); ENTRIES];
+    let r = committed_with_rests(memory, k, &mut out, &mut rests);
+    if !is_rounded(memory, k, r, &out) {
+        return false;
+    }
+    is_left_wide(memory, 18, k, &rests, k.rests)
+}
+
+fn committed_with_rests(memory: &[u8], k: Asked, out: &mut [u16], rests: &mut [i16]) -> Answer
+    requires { ⌜ length (now memory) ≡ 38912 ⌝ }
+{
+    let a = slots::whole(memory, 3);
+    let y1 = slots::wide(memory, 4);
+    let y2 = slots::wide(memory, 5);
+    let a_lent = first_whole(&a, length_of(memory, 3));
+    let y1_lent = first_wide(&y1, length_of(memory, 4));
+    let y2_lent = first_wide(&y2, length_of(memory, 5));
+    lending::commitment_with_rests(
+        k.set,
+        a_lent,
+        y1_lent,
+        y2_lent,
+        out,
+        once(k.rounded),
+        rests,
+        once(k.rests),
+    )
+}
+
 fn is_rounded(memory: &[u8], k: Asked, r: Answer, out: &[u16]) -> bool
-    requires { ⌜ (length (now memory) ≡ 36864) × (length (now out) ≡ 520) ⌝ }
+    requires { ⌜ (length (now memory) ≡ 38912) × (length (now out) ≡ 520) ⌝ }
 {
     if !is_wanted(r.number, r.place, k) {
         return false;
@@ -83,7 +118,7 @@ fn is_rounded(memory: &[u8], k: Asked, r: Answer, out: &[u16]) -> bool
 }
 
 fn respond(memory: &[u8], k: Asked, said: &mut [u32]) -> bool
-    requires { ⌜ length (now memory) ≡ 36864 ⌝ }
+    requires { ⌜ length (now memory) ≡ 38912 ⌝ }
 {
     let mut z1 = [wide_fill(k.fill); ENTRIES];
     let mut z2 = [byte_codes::signed8(k.fill); ENTRIES];
@@ -94,7 +129,7 @@ fn respond(memory: &[u8], k: Asked, said: &mut [u32]) -> bool
 }
 
 fn is_responded(memory: &[u8], k: Asked, z1: &mut [i16], z2: &mut [i8], said: &mut [u32]) -> bool
-    requires { ⌜ length (now memory) ≡ 36864 ⌝ }
+    requires { ⌜ length (now memory) ≡ 38912 ⌝ }
 {
     let f = slots::narrow(memory, 1);
     let g = slots::narrow(memory, 2);
@@ -112,7 +147,7 @@ fn is_keyed(
     z2: &mut [i8],
     said: &mut [u32],
 ) -> bool
-    requires { ⌜ length (now memory) ≡ 36864 ⌝ }
+    requires { ⌜ length (now memory) ≡ 38912 ⌝ }
 {
     let a = slots::whole(memory, 3);
     let list = slots::whole(memory, 6);
@@ -132,7 +167,7 @@ fn is_drawn(
     z2: &mut [i8],
     said: &mut [u32],
 ) -> bool
-    requires { ⌜ length (now memory) ≡ 36864 ⌝ }
+    requires { ⌜ length (now memory) ≡ 38912 ⌝ }
 {
     let y1 = slots::wide(memory, 4);
     let y2 = slots::wide(memory, 5);
@@ -272,7 +307,7 @@ fn total_of(set: u32) -> usize {
 }
 
 fn rebuild(memory: &[u8], k: Asked) -> bool
-    requires { ⌜ length (now memory) ≡ 36864 ⌝ }
+    requires { ⌜ length (now memory) ≡ 38912 ⌝ }
 {
     let mut out = [whole_fill(k.fill); ENTRIES];
     let r = rebuilt(memory, k, &mut out);
@@ -280,7 +315,7 @@ fn rebuild(memory: &[u8], k: Asked) -> bool
 }
 
 fn rebuilt(memory: &[u8], k: Asked, out: &mut [u16]) -> Answer
-    requires { ⌜ length (now memory) ≡ 36864 ⌝ }
+    requires { ⌜ length (now memory) ≡ 38912 ⌝ }
 {
     let a = slots::whole(memory, 3);
     let z1 = slots::wide(memory, 10);
@@ -302,7 +337,7 @@ fn rebuilt(memory: &[u8], k: Asked, out: &mut [u16]) -> Answer
 }
 
 fn comparison(memory: &[u8], k: Asked) -> bool
-    requires { ⌜ length (now memory) ≡ 36864 ⌝ }
+    requires { ⌜ length (now memory) ≡ 38912 ⌝ }
 {
     let claimed = slots::whole(memory, 6);
     let hashed = slots::whole(memory, 7);
@@ -313,7 +348,7 @@ fn comparison(memory: &[u8], k: Asked) -> bool
 }
 
 fn write(memory: &[u8], k: Asked) -> bool
-    requires { ⌜ length (now memory) ≡ 36864 ⌝ }
+    requires { ⌜ length (now memory) ≡ 38912 ⌝ }
 {
     let mut out = [k.fill; slots::ROOM];
     let old = [k.fill; slots::ROOM];
@@ -325,7 +360,7 @@ fn write(memory: &[u8], k: Asked) -> bool
 }
 
 fn written(memory: &[u8], k: Asked, out: &mut [u8]) -> Answer
-    requires { ⌜ length (now memory) ≡ 36864 ⌝ }
+    requires { ⌜ length (now memory) ≡ 38912 ⌝ }
 {
     let z1 = slots::wide(memory, 10);
     let z2 = slots::narrow(memory, 11);
@@ -337,7 +372,7 @@ fn written(memory: &[u8], k: Asked, out: &mut [u8]) -> Answer
 }
 
 fn read(memory: &[u8], k: Asked) -> bool
-    requires { ⌜ length (now memory) ≡ 36864 ⌝ }
+    requires { ⌜ length (now memory) ≡ 38912 ⌝ }
 {
     let mut z1 = [wide_fill(k.fill); ENTRIES];
     let mut z2 = [byte_codes::signed8(k.fill); ENTRIES];
@@ -356,14 +391,14 @@ fn read(memory: &[u8], k: Asked) -> bool
 }
 
 fn read_into(memory: &[u8], k: Asked, z1: &mut [i16], z2: &mut [i8], list: &mut [u16]) -> Reading
-    requires { ⌜ length (now memory) ≡ 36864 ⌝ }
+    requires { ⌜ length (now memory) ≡ 38912 ⌝ }
 {
     let rec = first_bytes(slots::front(memory, 12, slots::ROOM), length_of(memory, 12));
     lending::read(rec, z1, once(k.z1), z2, once(k.z2), list, once(k.list))
 }
 
 fn section(memory: &[u8], which: u8, k: Asked) -> bool
-    requires { ⌜ length (now memory) ≡ 36864 ⌝ }
+    requires { ⌜ length (now memory) ≡ 38912 ⌝ }
 {
     let rec = first_bytes(slots::front(memory, 12, slots::ROOM), length_of(memory, 12));
     let mut number: u32 = 4294967295;

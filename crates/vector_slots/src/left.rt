@@ -9,7 +9,7 @@ use crate::wanted::is_left;
 
 // An output of whole numbers, against its wanted slot.
 pub fn is_left_whole(memory: &[u8], slot: usize, k: Asked, out: &[u16], count: u16) -> bool
-    requires { ⌜ (length (now memory) ≡ 36864) × (slot < 18) × (length (now out) ≡ 520) ⌝ }
+    requires { ⌜ (length (now memory) ≡ 38912) × (slot < 19) × (length (now out) ≡ 520) ⌝ }
 {
     let filled = [whole_fill(k.fill); ENTRIES];
     let output = slots::packed_whole(out);
@@ -19,25 +19,26 @@ pub fn is_left_whole(memory: &[u8], slot: usize, k: Asked, out: &[u16], count: u
 
 // The outputs of z1 and z2 dagger.
 pub fn is_pair(memory: &[u8], k: Asked, z1: &[i16], z2: &[i8]) -> bool
-    requires { ⌜ (length (now memory) ≡ 36864) × (length (now z1) ≡ 520) × (length (now z2) ≡ 520) ⌝ }
+    requires { ⌜ (length (now memory) ≡ 38912) × (length (now z1) ≡ 520) × (length (now z2) ≡ 520) ⌝ }
 {
-    if !is_left_wide(memory, k, z1) {
+    if !is_left_wide(memory, 14, k, z1, k.z1) {
         return false;
     }
     is_left_narrow(memory, k, z2)
 }
 
-fn is_left_wide(memory: &[u8], k: Asked, z1: &[i16]) -> bool
-    requires { ⌜ (length (now memory) ≡ 36864) × (length (now z1) ≡ 520) ⌝ }
+// An output of 16-bit numbers with a sign, against its wanted slot.
+pub fn is_left_wide(memory: &[u8], slot: usize, k: Asked, out: &[i16], count: u16) -> bool
+    requires { ⌜ (length (now memory) ≡ 38912) × (slot < 19) × (length (now out) ≡ 520) ⌝ }
 {
     let filled = [wide_fill(k.fill); ENTRIES];
-    let output = slots::packed_wide(z1);
+    let output = slots::packed_wide(out);
     let old = slots::packed_wide(&filled);
-    is_left(memory, 14, k, &output, &old, twice(k.z1))
+    is_left(memory, slot, k, &output, &old, twice(count))
 }
 
 fn is_left_narrow(memory: &[u8], k: Asked, z2: &[i8]) -> bool
-    requires { ⌜ (length (now memory) ≡ 36864) × (length (now z2) ≡ 520) ⌝ }
+    requires { ⌜ (length (now memory) ≡ 38912) × (length (now z2) ≡ 520) ⌝ }
 {
     let filled = [byte_codes::signed8(k.fill); ENTRIES];
     let output = slots::packed_narrow(z2);

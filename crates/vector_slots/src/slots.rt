@@ -1,4 +1,4 @@
-// The seventeen slots. They lie in one memory of bytes: slot s has the 2,048 bytes from 2,048 s on, and its length is the number in the bytes 2 s and 2 s + 1.
+// The eighteen slots. They lie in one memory of bytes: slot s has the 2,048 bytes from 2,048 s on, and its length is the number in the bytes 2 s and 2 s + 1.
 ghost use mathlib.Core.Path.{_≡_};
 ghost use Prim.Native.Nat.{_≤_, _<_};
 ghost use lib.ListN.{length};
@@ -6,20 +6,20 @@ ghost use lib.ListN.{length};
 pub const ROOM: usize = 2048;
 
 // The memory's bytes: slot 0 has the lengths.
-pub const BYTES: usize = 36864;
+pub const BYTES: usize = 38912;
 
 // As many entries as any slot has, but for those of 64-bit numbers.
 pub const ENTRIES: usize = 520;
 
 pub fn length_of(memory: &[u8], slot: usize) -> usize
-    requires { ⌜ (length (now memory) ≡ 36864) × (slot < 18) ⌝ }
+    requires { ⌜ (length (now memory) ≡ 38912) × (slot < 19) ⌝ }
 {
     byte_codes::number_at(memory, 2 * slot) as usize
 }
 
 // The first bytes of a slot.
 pub fn front(memory: &[u8], slot: usize, count: usize) -> &[u8]
-    requires { ⌜ (length (now memory) ≡ 36864) × (slot < 18) × (count ≤ 2048) ⌝ }
+    requires { ⌜ (length (now memory) ≡ 38912) × (slot < 19) × (count ≤ 2048) ⌝ }
     ensures { λ r. ⌜ length (now r) ≡ count ⌝ }
 {
     let from = ROOM * slot;
@@ -30,7 +30,7 @@ pub fn front(memory: &[u8], slot: usize, count: usize) -> &[u8]
 // ---- a slot's entries, and zeros after them
 
 pub fn narrow(memory: &[u8], slot: usize) -> [i8; ENTRIES]
-    requires { ⌜ (length (now memory) ≡ 36864) × (slot < 18) ⌝ }
+    requires { ⌜ (length (now memory) ≡ 38912) × (slot < 19) ⌝ }
     ensures { λ r. ⌜ length r ≡ 520 ⌝ }
 {
     let mut row = [0i8; ENTRIES];
@@ -39,7 +39,7 @@ pub fn narrow(memory: &[u8], slot: usize) -> [i8; ENTRIES]
 }
 
 pub fn wide(memory: &[u8], slot: usize) -> [i16; ENTRIES]
-    requires { ⌜ (length (now memory) ≡ 36864) × (slot < 18) ⌝ }
+    requires { ⌜ (length (now memory) ≡ 38912) × (slot < 19) ⌝ }
     ensures { λ r. ⌜ length r ≡ 520 ⌝ }
 {
     let mut row = [0i16; ENTRIES];
@@ -48,7 +48,7 @@ pub fn wide(memory: &[u8], slot: usize) -> [i16; ENTRIES]
 }
 
 pub fn whole(memory: &[u8], slot: usize) -> [u16; ENTRIES]
-    requires { ⌜ (length (now memory) ≡ 36864) × (slot < 18) ⌝ }
+    requires { ⌜ (length (now memory) ≡ 38912) × (slot < 19) ⌝ }
     ensures { λ r. ⌜ length r ≡ 520 ⌝ }
 {
     let mut row = [0u16; ENTRIES];
@@ -57,7 +57,7 @@ pub fn whole(memory: &[u8], slot: usize) -> [u16; ENTRIES]
 }
 
 pub fn long(memory: &[u8], slot: usize) -> [u64; 64]
-    requires { ⌜ (length (now memory) ≡ 36864) × (slot < 18) ⌝ }
+    requires { ⌜ (length (now memory) ≡ 38912) × (slot < 19) ⌝ }
     ensures { λ r. ⌜ length r ≡ 64 ⌝ }
 {
     let mut row = [0u64; 64];

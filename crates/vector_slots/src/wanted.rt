@@ -4,7 +4,7 @@ ghost use Prim.Native.Nat.{_<_};
 ghost use lib.ListN.{length};
 use crate::slots;
 
-// The 26 bytes of a call: the set, then what is wanted, then the lengths of the outputs that are lent, the sign bit and what the outputs hold before.
+// The 28 bytes of a call: the set, then what is wanted, then the lengths of the outputs that are lent, the sign bit and what the outputs hold before.
 pub struct Asked {
     pub set: u32,
     pub number: u32,
@@ -18,12 +18,13 @@ pub struct Asked {
     pub z2: u16,
     pub list: u16,
     pub output: u16,
+    pub rests: u16,
     pub sign: bool,
     pub fill: u8,
 }
 
 pub fn asked_in(bytes: &[u8]) -> Asked
-    requires { ⌜ length (now bytes) ≡ 26 ⌝ }
+    requires { ⌜ length (now bytes) ≡ 28 ⌝ }
 {
     Asked {
         set: set_in(bytes),
@@ -38,8 +39,9 @@ pub fn asked_in(bytes: &[u8]) -> Asked
         z2: byte_codes::number_at(bytes, 18),
         list: byte_codes::number_at(bytes, 20),
         output: byte_codes::number_at(bytes, 22),
-        sign: bytes[24] == 1,
-        fill: bytes[25],
+        rests: byte_codes::number_at(bytes, 24),
+        sign: bytes[26] == 1,
+        fill: bytes[27],
     }
 }
 
@@ -48,7 +50,7 @@ fn wide(x: u8) -> u32 {
 }
 
 fn set_in(bytes: &[u8]) -> u32
-    requires { ⌜ length (now bytes) ≡ 26 ⌝ }
+    requires { ⌜ length (now bytes) ≡ 28 ⌝ }
 {
     let low = byte_codes::number_at(bytes, 0) as u32;
     let high = byte_codes::number_at(bytes, 2) as u32;
@@ -72,7 +74,7 @@ pub fn is_left(
     old: &[u8],
     count: usize,
 ) -> bool
-    requires { ⌜ (length (now memory) ≡ 36864) × (slot < 18) ⌝ }
+    requires { ⌜ (length (now memory) ≡ 38912) × (slot < 19) ⌝ }
 {
     if k.number == 0 {
         same(slots::front(memory, slot, slots::ROOM), output, count)

@@ -15,17 +15,23 @@ use sets::Set;
 
 // ---- lengths
 
-// Whether three, or four, lengths are 512.
+// Whether two, three or four lengths are 512.
+pub fn two_sized(x: usize, y: usize) -> bool
+    ensures { λ r. ⌜ r ≡ isDimension x && isDimension y ⌝ }
+{
+    if x != Set::DIMENSION {
+        return false;
+    }
+    y == Set::DIMENSION
+}
+
 pub fn three_sized(x: usize, y: usize, z: usize) -> bool
     ensures { λ r. ⌜ r ≡ isDimension x && (isDimension y && isDimension z) ⌝ }
 {
     if x != Set::DIMENSION {
         return false;
     }
-    if y != Set::DIMENSION {
-        return false;
-    }
-    z == Set::DIMENSION
+    two_sized(y, z)
 }
 
 pub fn four_sized(w: usize, x: usize, y: usize, z: usize) -> bool

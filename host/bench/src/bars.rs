@@ -56,7 +56,7 @@ const fn program(
     }
 }
 
-const ROWS: [Row; 10] = [
+const ROWS: [Row; 11] = [
     program(
         "product, both operands transformed",
         ("ring_bench", 2000),
@@ -75,6 +75,13 @@ const ROWS: [Row; 10] = [
         Set::I,
         "commitment",
         Some(63_000),
+        None,
+    ),
+    call(
+        "commitment with rests, set I",
+        Set::I,
+        "commitment-with-rests",
+        Some(64_000),
         None,
     ),
     call("response, set I", Set::I, "response", None, Some(325_770)),

@@ -9,9 +9,14 @@ use second::Set;
 use std::hint::black_box;
 
 /// The calls that are measured: as options name them, and the symbols that the library exports.
-pub const MEASURED: [(Call, &str, &str); 6] = [
+pub const MEASURED: [(Call, &str, &str); 7] = [
     (Call::KeyTest, "key-test", "bursztok_key_test"),
     (Call::Commitment, "commitment", "bursztok_commitment"),
+    (
+        Call::CommitmentWithRests,
+        "commitment-with-rests",
+        "bursztok_commitment_with_rests",
+    ),
     (Call::Respond, "response", "bursztok_respond"),
     (Call::Rebuild, "rebuild", "bursztok_rebuild"),
     (Call::Write, "write", "bursztok_write"),
@@ -29,6 +34,7 @@ pub enum Side {
 pub struct Work {
     input: Input,
     rounded: Vec<u16>,
+    rests: Vec<i16>,
     z1: Vec<i16>,
     z2_dagger: Vec<i8>,
     list: Vec<u16>,
@@ -61,6 +67,7 @@ impl Work {
                 lengths,
             },
             rounded: vec![0; lengths.rounded],
+            rests: vec![0; lengths.rests],
             z1: vec![0; lengths.z1],
             z2_dagger: vec![0; lengths.z2_dagger],
             list: vec![0; lengths.list],
@@ -75,6 +82,7 @@ impl Work {
     pub fn run(&mut self, side: Side, call: Call) {
         let outputs = Outputs {
             rounded: &mut self.rounded,
+            rests: &mut self.rests,
             z1: &mut self.z1,
             z2_dagger: &mut self.z2_dagger,
             list: &mut self.list,

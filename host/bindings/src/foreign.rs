@@ -53,6 +53,20 @@ extern "C" {
         out_len: usize,
     ) -> Answer;
 
+    pub fn bursztok_commitment_with_rests(
+        set: u32,
+        a: *const u16,
+        a_len: usize,
+        y1: *const i16,
+        y1_len: usize,
+        y2: *const i16,
+        y2_len: usize,
+        out: *mut u16,
+        out_len: usize,
+        rests: *mut i16,
+        rests_len: usize,
+    ) -> Answer;
+
     pub fn bursztok_respond(
         set: u32,
         f: *const i8,

@@ -1,9 +1,8 @@
 //! Safe bindings to `libbursztok.a`, the proved BLISS-B signing core.
 //!
-//! The ten calls of paper 01, with slices for the pointers and lengths of `bursztok.h`, and the two
-//! that tell a set's sizes. Every call
-//! answers on all input, slices of any length included; a refusal leaves every output slice with
-//! the contents it came with.
+//! The eleven calls of papers 01 and 02, with slices for the pointers and lengths of `bursztok.h`, and
+//! the two that tell a set's sizes. Every call answers on all input, slices of any length included; a
+//! refusal leaves every output slice with the contents it came with.
 
 pub mod foreign;
 #[cfg(target_arch = "x86_64")]
@@ -82,6 +81,18 @@ pub fn commitment(
     out: &mut [u16],
 ) -> Result<(), Refusal> {
     outcome(calls::commitment(set, a, y1, y2, out))
+}
+
+/// The commitment, and how far each sum lies from its rounded step: -2^(d-1) .. 2^(d-1) - 1.
+pub fn commitment_with_rests(
+    set: u32,
+    a: &[u16],
+    y1: &[i16],
+    y2: &[i16],
+    out: &mut [u16],
+    rests: &mut [i16],
+) -> Result<(), Refusal> {
+    outcome(calls::commitment_with_rests(set, a, y1, y2, out, rests))
 }
 
 /// The response to a challenge: writes z1 and z2 dagger.

@@ -35,6 +35,32 @@ pub fn commitment(set: u32, a: &[u16], y1: &[i16], y2: &[i16], out: &mut [u16]) 
     }
 }
 
+pub fn commitment_with_rests(
+    set: u32,
+    a: &[u16],
+    y1: &[i16],
+    y2: &[i16],
+    out: &mut [u16],
+    rests: &mut [i16],
+) -> Answer {
+    // SAFETY: each pointer is good for the length beside it; the outputs are borrowed alone.
+    unsafe {
+        foreign::bursztok_commitment_with_rests(
+            set,
+            a.as_ptr(),
+            a.len(),
+            y1.as_ptr(),
+            y1.len(),
+            y2.as_ptr(),
+            y2.len(),
+            out.as_mut_ptr(),
+            out.len(),
+            rests.as_mut_ptr(),
+            rests.len(),
+        )
+    }
+}
+
 pub fn respond(set: u32, asked: Challenge, z1: &mut [i16], z2_dagger: &mut [i8]) -> Response {
     // SAFETY: each pointer is good for the length beside it; the outputs are borrowed alone.
     unsafe {

@@ -62,7 +62,7 @@ fn lost(error: &io::Error) -> ! {
     std::process::exit(2)
 }
 
-/// A call, by its place in `bursztok.h`, and what the bridge answers: the form is in `bridge.c`.
+/// A call, by its number in `bridge.c`, and what the bridge answers: the form is there too.
 fn ask(
     call: u32,
     set: u32,
@@ -116,6 +116,19 @@ pub fn key_test(set: u32, f: &[i8], g: &[i8], a: &[u16]) -> Answer {
 pub fn commitment(set: u32, a: &[u16], y1: &[i16], y2: &[i16], out: &mut [u16]) -> Answer {
     let read = [bytes(a), bytes(y1), bytes(y2)];
     ask(2, set, false, &read, &mut [bytes_mut(out)]).0
+}
+
+pub fn commitment_with_rests(
+    set: u32,
+    a: &[u16],
+    y1: &[i16],
+    y2: &[i16],
+    out: &mut [u16],
+    rests: &mut [i16],
+) -> Answer {
+    let read = [bytes(a), bytes(y1), bytes(y2)];
+    let mut written = [bytes_mut(out), bytes_mut(rests)];
+    ask(11, set, false, &read, &mut written).0
 }
 
 pub fn respond(set: u32, asked: Challenge, z1: &mut [i16], z2_dagger: &mut [i8]) -> Response {
@@ -187,9 +200,9 @@ fn section(call: u32, record: &[u8]) -> (Answer, Part) {
 }
 
 pub fn kappa(set: u32) -> u32 {
-    ask(11, set, false, &[], &mut []).0.number
+    ask(12, set, false, &[], &mut []).0.number
 }
 
 pub fn record_bytes(set: u32) -> u32 {
-    ask(12, set, false, &[], &mut []).0.number
+    ask(13, set, false, &[], &mut []).0.number
 }

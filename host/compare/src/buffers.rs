@@ -10,6 +10,7 @@ const MARGIN: usize = 5;
 #[derive(Clone, Debug, PartialEq, Eq)]
 pub struct Buffers {
     rounded: Vec<u16>,
+    rests: Vec<i16>,
     z1: Vec<i16>,
     z2_dagger: Vec<i8>,
     list: Vec<u16>,
@@ -24,6 +25,7 @@ impl Buffers {
         let mut filled = |length: usize| noise.words(length + 2 * MARGIN).into_iter();
         Buffers {
             rounded: filled(lengths.rounded).map(|word| word as u16).collect(),
+            rests: filled(lengths.rests).map(|word| word as i16).collect(),
             z1: filled(lengths.z1).map(|word| word as i16).collect(),
             z2_dagger: filled(lengths.z2_dagger).map(|word| word as i8).collect(),
             list: filled(lengths.list).map(|word| word as u16).collect(),
@@ -34,6 +36,7 @@ impl Buffers {
     fn outputs(&mut self) -> Outputs<'_> {
         Outputs {
             rounded: within_mut(&mut self.rounded),
+            rests: within_mut(&mut self.rests),
             z1: within_mut(&mut self.z1),
             z2_dagger: within_mut(&mut self.z2_dagger),
             list: within_mut(&mut self.list),
@@ -107,6 +110,7 @@ pub fn difference(library: &Left, second: &Left) -> Option<String> {
     }
     let (ours, theirs) = (&library.buffers, &second.buffers);
     entry("rounded vector", &ours.rounded, &theirs.rounded)
+        .or_else(|| entry("rests", &ours.rests, &theirs.rests))
         .or_else(|| entry("z1", &ours.z1, &theirs.z1))
         .or_else(|| entry("z2 dagger", &ours.z2_dagger, &theirs.z2_dagger))
         .or_else(|| entry("list", &ours.list, &theirs.list))
@@ -138,7 +142,7 @@ mod tests {
         let input = right_input(1, &keys::thin(), &mut noise);
         let right = Left::by(run, Call::Read, &input, 7);
         assert_eq!(difference(&right, &right), None);
-        let changes: [fn(&mut Left); 11] = [
+        let changes: [fn(&mut Left); 12] = [
             |left| left.answered.number += 1,
             |left| left.answered.place += 1,
             |left| left.answered.words += 1,
@@ -146,6 +150,7 @@ mod tests {
             |left| left.answered.part.0 += 1,
             |left| left.answered.size += 1,
             |left| left.buffers.rounded[3] ^= 1,
+            |left| left.buffers.rests[200] ^= 1,
             |left| left.buffers.z1[0] ^= 1,
             |left| left.buffers.z2_dagger[300] ^= 1,
             |left| *left.buffers.list.last_mut().unwrap() ^= 1,

@@ -253,16 +253,18 @@ impl Found {
     }
 
     /// Demands 2 and 3 for a signature that was given out: it is written, read back, rebuilt to
-    /// the commitment, and compared.
+    /// the commitment, which is the same with rests, and compared.
     fn follow(&mut self, input: &Input, given_out: &Left) {
         let mut next = input.clone();
         next.z1 = given_out.buffers.z1().to_vec();
         next.z2_dagger = given_out.buffers.z2_dagger().to_vec();
         next.hashed.clone_from(&next.list);
         let committed = self.compare(Call::Commitment, &next);
-        let rebuilt = self.compare(Call::Rebuild, &next);
-        if rebuilt.number() != 0 || rebuilt.buffers.rounded() != committed.buffers.rounded() {
-            self.fail(Call::Rebuild, "it is not the commitment");
+        for call in [Call::CommitmentWithRests, Call::Rebuild] {
+            let again = self.compare(call, &next);
+            if again.number() != 0 || again.buffers.rounded() != committed.buffers.rounded() {
+                self.fail(call, "it is not the commitment");
+            }
         }
         if self.compare(Call::Compare, &next).number() != 0 {
             self.fail(Call::Compare, "a list differs from itself");

@@ -9,6 +9,10 @@ pub fn run(call: Call, input: &Input, out: Outputs) -> Answered {
     let outcome = match call {
         Call::KeyTest => bursztok::key_test(*set, &input.f, &input.g, a),
         Call::Commitment => bursztok::commitment(*set, a, &input.y1, &input.y2, out.rounded),
+        Call::CommitmentWithRests => {
+            let (rounded, rests) = (out.rounded, out.rests);
+            bursztok::commitment_with_rests(*set, a, &input.y1, &input.y2, rounded, rests)
+        }
         Call::Rebuild => bursztok::rebuild(*set, a, &input.z1, &input.z2_dagger, list, out.rounded),
         Call::Compare => bursztok::compare(*set, list, &input.hashed),
         Call::Write => bursztok::write(*set, &input.z1, &input.z2_dagger, list, out.record),

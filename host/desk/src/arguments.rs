@@ -4,14 +4,16 @@ use crate::failure::Failure;
 use shell::console::shown;
 use shell::files::{is_stream, same_file};
 use shell::options::Options;
-use std::cell::Cell;
-use std::path::PathBuf;
+use std::cell::{Cell, RefCell};
+use std::path::{Path, PathBuf};
 
 pub struct Arguments {
     options: Options,
     subcommand: &'static str,
     /// Whether some file is standard input already, or standard output.
     streams: (Cell<bool>, Cell<bool>),
+    /// The files for output so far, with the options that name them.
+    outputs: RefCell<Vec<(&'static str, PathBuf)>>,
 }
 
 impl Arguments {
@@ -20,6 +22,7 @@ impl Arguments {
             options,
             subcommand,
             streams: (Cell::new(false), Cell::new(false)),
+            outputs: RefCell::default(),
         }
     }
 
@@ -60,26 +63,47 @@ impl Arguments {
         Ok(file)
     }
 
-    /// The file that an option names for output: none of the files that these name for input.
-    pub fn output(&self, name: &str, inputs: &[&str]) -> Result<PathBuf, Failure> {
+    /// The file that an option names for output: none of the files that these name for input, and
+    /// none that was named for output before.
+    pub fn output(&self, name: &'static str, inputs: &[&str]) -> Result<PathBuf, Failure> {
         let out = PathBuf::from(self.required(name)?);
         if is_stream(&out) {
             if self.has("json") {
                 return Err(self.fault("--json and an output to '-' do not go together"));
             }
-            self.streams.1.set(true);
+            if self.streams.1.replace(true) {
+                return Err(self.fault("'-' is given for two files, standard output is only one"));
+            }
             return Ok(out);
         }
         for input in inputs {
             if self.file(input).is_ok_and(|file| same_file(&file, &out)) {
-                return Err(Failure::usage(format!(
-                    "{}: --{name} names the file of {input}, {}",
-                    self.subcommand,
-                    out.display()
-                )));
+                return Err(self.taken(name, input, &out));
             }
         }
+        let mut outputs = self.outputs.borrow_mut();
+        if let Some((other, _)) = outputs.iter().find(|(_, file)| same_place(file, &out)) {
+            return Err(self.taken(name, &format!("--{other}"), &out));
+        }
+        outputs.push((name, out.clone()));
         Ok(out)
+    }
+
+    /// The same where the option is given.
+    pub fn output_if_given(
+        &self,
+        name: &'static str,
+        inputs: &[&str],
+    ) -> Result<Option<PathBuf>, Failure> {
+        let given = self.given(name);
+        given.map(|_| self.output(name, inputs)).transpose()
+    }
+
+    fn taken(&self, name: &str, other: &str, file: &Path) -> Failure {
+        let (subcommand, file) = (self.subcommand, file.display());
+        Failure::usage(format!(
+            "{subcommand}: --{name} names the file of {other}, {file}"
+        ))
     }
 
     /// Whether standard output holds a file, so that what is said goes to standard error.
@@ -102,4 +126,11 @@ impl Arguments {
             ))
         })
     }
+}
+
+/// Whether two paths lead to one file, also where it is not there yet.
+fn same_place(one: &Path, other: &Path) -> bool {
+    let folder = |path: &Path| Path::new(".").join(path.parent().unwrap_or(path));
+    let beside = || same_file(&folder(one), &folder(other));
+    same_file(one, other) || (one.file_name() == other.file_name() && beside())
 }

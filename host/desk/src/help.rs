@@ -5,7 +5,7 @@ bursztok: signs and checks cargo sheets with BLISS-B, sets I to IV
 
   bursztok demo        the main job end to end, with a test key
   bursztok key-test    test a key
-  bursztok commit      commit to masks
+  bursztok commit      commit to masks, with the rests after rounding on request
   bursztok sign        answer a list and write the record
   bursztok check       check a record against a sheet
   bursztok rebuild     read a record and rebuild the commitment, with no verdict on a sheet
@@ -52,15 +52,23 @@ Refusals in order: 1, 2, 3, 7, 6.
   --json              the answer as JSON";
 
 pub const COMMIT: &str = "\
-bursztok commit --set N (--folder DIR | --a FILE --y1 FILE --y2 FILE) --out FILE [--json]
+bursztok commit --set N (--folder DIR | --a FILE --y1 FILE --y2 FILE) --out FILE
+                [--rests FILE] [--plot FILE] [--json]
 
 Commits to masks and writes the 512 numbers to hash with the sheet.
 Refusals in order: 1, 2, 3, 4.
+
+With --rests or --plot it tells how far each sum lies from its rounded step too. The rest is the
+sum minus 2^d times its rounded quotient, before the remainder by p, and lies in -2^(d-1) ..
+2^(d-1) - 1; d is 10 for sets 1 and 2, 9 for set 3, 8 for set 4. No file takes its place before all
+are written.
 
   --set N               the parameter set
   --folder DIR          holds a.txt, y1.txt and y2.txt
   --a, --y1, --y2 FILE  name a file of its own
   --out FILE            where the commitment goes
+  --rests FILE          where the 512 rests go
+  --plot FILE           where the histogram of the rests goes, a picture in SVG
   --json                the answer as JSON";
 
 pub const SIGN: &str = "\

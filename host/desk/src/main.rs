@@ -10,6 +10,7 @@ mod failure;
 mod hash;
 mod header;
 mod help;
+mod histogram;
 mod inspect;
 mod json;
 mod lent;

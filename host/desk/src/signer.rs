@@ -4,11 +4,12 @@ use crate::answer::Done;
 use crate::arguments::Arguments;
 use crate::causes::explain;
 use crate::failure::{Failure, Named, Refused};
+use crate::histogram::histogram;
 use crate::lent::{source_of, Lent};
 use crate::record::record_of;
 use bursztok::{Challenge, Response, THRESHOLDS, VECTOR};
 use shell::console::shown;
-use shell::files::write_file;
+use shell::files::{is_stream, write_file, write_files};
 use shell::numbers::{joined, read_numbers, text_of};
 
 pub fn key_test(arguments: &Arguments) -> Result<Done, Failure> {
@@ -35,20 +36,45 @@ pub fn explained<T>(outcome: Result<T, Failure>, set: u32, lent: &Lent) -> Resul
 
 pub fn commit(arguments: &Arguments) -> Result<Done, Failure> {
     let set = arguments.set()?;
-    let out = arguments.output("out", &["a", "y1", "y2"])?;
+    let inputs = ["a", "y1", "y2"];
+    let out = arguments.output("out", &inputs)?;
+    let rests_out = arguments.output_if_given("rests", &inputs)?;
+    let plot_out = arguments.output_if_given("plot", &inputs)?;
     let mut lent = Lent::default();
     let a: Vec<u16> = lent.read(arguments, "a", Some(VECTOR))?;
     let y1: Vec<i16> = lent.read(arguments, "y1", Some(VECTOR))?;
     let y2: Vec<i16> = lent.read(arguments, "y2", Some(VECTOR))?;
-    let mut committed = [0; VECTOR];
-    let outcome = bursztok::commitment(set, &a, &y1, &y2, &mut committed).named("commitment");
-    explained(outcome, set, &lent)?;
-    write_file(&out, &text_of("commitment", &committed))?;
-    let out = out.display();
+    let (mut committed, mut rests) = ([0; VECTOR], [0; VECTOR]);
+    let (call, outcome) = if rests_out.is_some() || plot_out.is_some() {
+        let outcome =
+            bursztok::commitment_with_rests(set, &a, &y1, &y2, &mut committed, &mut rests);
+        ("commitment with rests", outcome)
+    } else {
+        let outcome = bursztok::commitment(set, &a, &y1, &y2, &mut committed);
+        ("commitment", outcome)
+    };
+    explained(outcome.named(call), set, &lent)?;
+
+    let mut said = format!(
+        "The commitment is in {}. Hash it with the sheet to make the list.",
+        out.display()
+    );
+    let mut files = vec![(out, text_of("commitment", &committed))];
+    if let Some(out) = rests_out {
+        said += &format!(" The rests are in {}.", out.display());
+        files.push((out, text_of("rests", &rests)));
+    }
+    if let Some(out) = plot_out {
+        said += &format!(" The histogram of the rests is in {}.", out.display());
+        files.push((out, histogram(set, &rests)?));
+    }
+    // Standard output cannot be taken back: it comes last.
+    files.sort_by_key(|(file, _)| is_stream(file));
+    write_files(&files)?;
     Ok(Done {
-        call: "commitment",
+        call,
         set,
-        said: format!("The commitment is in {out}. Hash it with the sheet to make the list."),
+        said,
         ..Done::default()
     })
 }

@@ -68,7 +68,7 @@ pub const SUBCOMMANDS: &[Subcommand] = &[
     ),
     answers(
         "commit",
-        &["set", "folder", "a", "y1", "y2", "out"],
+        &["set", "folder", "a", "y1", "y2", "out", "rests", "plot"],
         help::COMMIT,
         signer::commit,
     ),

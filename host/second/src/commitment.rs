@@ -1,9 +1,9 @@
-//! "Commitment".
+//! "Commitment", and the rests that paper 02 adds to it.
 
 use crate::answers::Refusal;
 use crate::key::require_public_range;
 use crate::parameters::{require_vectors, Set, MASK_LIMIT, Q};
-use crate::ring::{modulo_2q, modulo_q, product, upper_digits, whole, Whole};
+use crate::ring::{modulo_2q, modulo_q, product, rest, upper_digits, whole, Whole};
 
 /// The commitment: 1, 2, 3, 4.
 pub fn commitment(
@@ -13,14 +13,48 @@ pub fn commitment(
     y2: &[i16],
     out: &mut [u16],
 ) -> Result<(), Refusal> {
-    let set = Set::asked(set)?;
-    require_vectors(&[a.len(), y1.len(), y2.len(), out.len()])?;
-    require_public_range(a)?;
-    require_masks(y1, y2)?;
-    for (digits, x) in out.iter_mut().zip(sums(a, y1, y2)) {
-        *digits = upper_digits(set, x) as u16;
+    let (set, u) = tested_sums(set, a, y1, y2, &[out.len()])?;
+    put_digits(set, &u, out);
+    Ok(())
+}
+
+/// The commitment that also fills a vector of rests: 1, 2, 3, 4.
+pub fn commitment_with_rests(
+    set: u32,
+    a: &[u16],
+    y1: &[i16],
+    y2: &[i16],
+    out: &mut [u16],
+    rests: &mut [i16],
+) -> Result<(), Refusal> {
+    let (set, u) = tested_sums(set, a, y1, y2, &[out.len(), rests.len()])?;
+    put_digits(set, &u, out);
+    for (entry, &x) in rests.iter_mut().zip(&u) {
+        *entry = rest(set, x) as i16;
     }
     Ok(())
+}
+
+/// The tests of both calls, and what they round: the set and u.
+fn tested_sums(
+    set: u32,
+    a: &[u16],
+    y1: &[i16],
+    y2: &[i16],
+    outputs: &[usize],
+) -> Result<(Set, Whole), Refusal> {
+    let set = Set::asked(set)?;
+    require_vectors(&[a.len(), y1.len(), y2.len()])?;
+    require_vectors(outputs)?;
+    require_public_range(a)?;
+    require_masks(y1, y2)?;
+    Ok((set, sums(a, y1, y2)))
+}
+
+fn put_digits(set: Set, u: &[i64], out: &mut [u16]) {
+    for (entry, &x) in out.iter_mut().zip(u) {
+        *entry = upper_digits(set, x) as u16;
+    }
 }
 
 /// Refusal 4: masks lie in -4096 .. 4096.

@@ -1,5 +1,5 @@
-//! The independent second program: the ten calls of paper 01, written from the papers, and the two
-//! that tell a set's sizes.
+//! The independent second program: the eleven calls of papers 01 and 02, written from the papers,
+//! and the two that tell a set's sizes.
 //!
 //! Every product is the plain signed-wrap sum over whole numbers. Nothing is shared with the
 //! proved library: no code, no table, no transform. One module a section of the paper.
@@ -22,7 +22,7 @@ pub mod sizes;
 pub mod testing;
 
 pub use answers::{Reading, Refusal, Response};
-pub use commitment::commitment;
+pub use commitment::{commitment, commitment_with_rests};
 pub use comparison::compare;
 pub use key::key_test;
 pub use parameters::Set;

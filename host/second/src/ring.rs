@@ -56,10 +56,20 @@ pub fn squared_length(a: &[i64]) -> i64 {
     inner_product(a, a)
 }
 
-/// The upper digits of x, which has been reduced modulo 24578 first.
-pub fn upper_digits(set: Set, x: i64) -> i64 {
+/// The quotient of x by 2^d, rounded. x has been reduced modulo 24578 first.
+pub fn quotient(set: Set, x: i64) -> i64 {
     assert!((0..2 * Q).contains(&x), "{x} is not reduced modulo 24578");
-    (x + set.step() / 2).div_euclid(set.step()) % set.p()
+    (x + set.step() / 2).div_euclid(set.step())
+}
+
+/// The upper digits of x: the rounded quotient modulo p.
+pub fn upper_digits(set: Set, x: i64) -> i64 {
+    quotient(set, x) % set.p()
+}
+
+/// The rest after rounding: x minus 2^d times the rounded quotient before the remainder by p.
+pub fn rest(set: Set, x: i64) -> i64 {
+    x - set.step() * quotient(set, x)
 }
 
 /// Centring modulo p gives -p/2 .. p/2 - 1.

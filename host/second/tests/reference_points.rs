@@ -1,12 +1,14 @@
-//! "Reference points" and the tables of paper 01.
+//! "Reference points" and the tables of paper 01, and the rests beside them that paper 02 asks for.
 
 use second::commitment::doubled_zeta_times;
 use second::parameters::N;
 use second::record::total;
 use second::response::{sign_choices, trials};
-use second::ring::{centred, squared_length, upper_digits, whole};
+use second::ring::{centred, modulo_2q, rest, squared_length, upper_digits, whole};
 use second::testing::keys;
-use second::{commitment, key_test, rebuild, respond, write, Refusal, Response, Set};
+use second::{
+    commitment, commitment_with_rests, key_test, rebuild, respond, write, Refusal, Response, Set,
+};
 
 #[test]
 fn the_table_of_parameters() {
@@ -57,6 +59,35 @@ fn upper_digits_of_the_table() {
             assert_eq!(upper_digits(set, x), digits, "{set:?} {x}");
         }
     }
+}
+
+#[test]
+fn rests_of_the_table() {
+    let points = [
+        (Set::I, [(511, 511), (512, -512), (24577, 1)]),
+        (Set::III, [(255, 255), (256, -256), (24577, 1)]),
+        (Set::IV, [(127, 127), (128, -128), (24577, 1)]),
+    ];
+    for (set, row) in points {
+        for (x, wanted) in row {
+            assert_eq!(rest(set, x), wanted, "{set:?} {x}");
+        }
+    }
+    assert_eq!(rest(Set::I, modulo_2q(25_089)), 511);
+}
+
+#[test]
+fn a_commitment_has_the_rests_of_the_table() {
+    let key = keys::thin();
+    let (mut y1, mut y2) = (vec![0; N], vec![0; N]);
+    // Sums 511, 512 and 24577; and 12288 * 2 + 513 = 25089, which reduces to 511.
+    y2[..4].copy_from_slice(&[511, 512, -1, 513]);
+    y1[3] = 2;
+    let (mut digits, mut rests) = (vec![7; N], vec![7; N]);
+    let outcome = commitment_with_rests(1, &key.a, &y1, &y2, &mut digits, &mut rests);
+    assert_eq!(outcome, Ok(()));
+    assert_eq!(digits[..5], [0, 1, 0, 0, 0]);
+    assert_eq!(rests[..5], [511, -512, 1, 511, 0]);
 }
 
 #[test]

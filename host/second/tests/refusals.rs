@@ -16,12 +16,14 @@ type Faults<'a> = &'a [(Refusal, &'a dyn Fn(&mut Input))];
 fn answer(call: Call, input: &Input) -> Answered {
     let lengths = input.lengths;
     let mut rounded = vec![0xabcd; lengths.rounded];
+    let mut rests = vec![-79; lengths.rests];
     let mut z1 = vec![-77; lengths.z1];
     let mut z2_dagger = vec![-78; lengths.z2_dagger];
     let mut list = vec![0xabce; lengths.list];
     let mut record = vec![0xab; lengths.record];
     let outputs = Outputs {
         rounded: &mut rounded,
+        rests: &mut rests,
         z1: &mut z1,
         z2_dagger: &mut z2_dagger,
         list: &mut list,
@@ -30,6 +32,7 @@ fn answer(call: Call, input: &Input) -> Answered {
     let answered = run(call, input, outputs);
     if answered.number != 0 {
         assert_eq!(rounded, vec![0xabcd; lengths.rounded]);
+        assert_eq!(rests, vec![-79; lengths.rests]);
         assert_eq!(z1, vec![-77; lengths.z1]);
         assert_eq!(z2_dagger, vec![-78; lengths.z2_dagger]);
         assert_eq!(list, vec![0xabce; lengths.list]);
@@ -55,6 +58,15 @@ fn require_order(call: Call, right: &Input, order: Faults) {
         let mut alone = right.clone();
         fault(&mut alone);
         assert_eq!(refusal(call, &alone), wanted, "alone");
+    }
+}
+
+/// Each fault alone brings its refusal.
+fn require_each(call: Call, right: &Input, faults: Faults) {
+    for (wanted, fault) in faults {
+        let mut input = right.clone();
+        fault(&mut input);
+        assert_eq!(refusal(call, &input), (wanted.number, wanted.place));
     }
 }
 
@@ -111,7 +123,6 @@ fn key_test_order() {
 
 #[test]
 fn each_vector_of_the_key_is_tested() {
-    let right = right_input(Set::III, 52);
     let faults: Faults = &[
         (Refusal::LENGTH, &|input| input.f.truncate(511)),
         (Refusal::LENGTH, &|input| input.g.clear()),
@@ -123,12 +134,7 @@ fn each_vector_of_the_key_is_tested() {
         (Refusal::COEFFICIENT, &|input| input.a[0] = u16::MAX),
         (Refusal::RELATION, &|input| input.f.reverse()),
     ];
-    for (wanted, fault) in faults {
-        let mut input = right.clone();
-        fault(&mut input);
-        let found = refusal(Call::KeyTest, &input);
-        assert_eq!(found, (wanted.number, wanted.place));
-    }
+    require_each(Call::KeyTest, &right_input(Set::III, 52), faults);
 }
 
 #[test]
@@ -152,6 +158,50 @@ fn commitment_order() {
             (Refusal::MASK, &|input| input.y2[511] = -4097),
         ];
         require_order(Call::Commitment, &right_input(set, 54), order);
+    }
+}
+
+#[test]
+fn commitment_with_rests_order() {
+    for set in Set::ALL {
+        let order: Faults = &[
+            (Refusal::SET, &|input| input.set = 5),
+            (Refusal::LENGTH, &|input| input.lengths.rests = 511),
+            (Refusal::COEFFICIENT, &|input| input.a[0] = 12289),
+            (Refusal::MASK, &|input| input.y2[511] = -4097),
+        ];
+        require_order(Call::CommitmentWithRests, &right_input(set, 63), order);
+    }
+}
+
+#[test]
+fn each_vector_of_the_commitment_with_rests_is_tested() {
+    let faults: Faults = &[
+        (Refusal::LENGTH, &|input| input.a.push(0)),
+        (Refusal::LENGTH, &|input| input.y1.truncate(511)),
+        (Refusal::LENGTH, &|input| input.y2.clear()),
+        (Refusal::COEFFICIENT, &|input| input.a[511] = 12289),
+        (Refusal::MASK, &|input| input.y1[0] = 4097),
+        (Refusal::MASK, &|input| input.y2[511] = 4097),
+    ];
+    require_each(Call::CommitmentWithRests, &right_input(Set::IV, 64), faults);
+}
+
+#[test]
+fn each_output_of_the_commitment_with_rests_is_of_its_length() {
+    let right = right_input(Set::II, 65);
+    let faults: [fn(&mut OutputLengths, usize); 2] = [
+        |lengths, length| lengths.rounded = length,
+        |lengths, length| lengths.rests = length,
+    ];
+    for length in [0, 511, 513] {
+        for fault in faults {
+            let mut input = right.clone();
+            fault(&mut input.lengths, length);
+            // The length goes before the mask.
+            input.y1[0] = 4097;
+            assert_eq!(refusal(Call::CommitmentWithRests, &input), (2, 0));
+        }
     }
 }
 

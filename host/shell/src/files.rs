@@ -119,6 +119,14 @@ fn left_over(part: &Path, file: &Path) -> String {
 
 fn put_in_place(parts: &[Part]) -> Result<(), String> {
     for (part, file) in parts {
+        if parts.iter().any(|(_, other)| same_file(part, other)) {
+            let (part, file) = (part.display(), file.display());
+            return Err(format!(
+                "{part} is to be written, and {file} beside it, whose part has that name"
+            ));
+        }
+    }
+    for (part, file) in parts {
         std::fs::rename(part, file).map_err(told(file))?;
     }
     Ok(())
@@ -182,6 +190,19 @@ mod tests {
         assert!(said.contains("remove"), "{said}");
         assert_eq!(std::fs::read(&part).unwrap(), b"another's");
         assert!(!file.exists());
+    }
+
+    #[test]
+    fn no_file_is_written_that_is_the_part_of_another() {
+        let folder = Folder::new("both");
+        let (file, part) = (folder.0.join("file"), folder.0.join("file.part"));
+        let files = [
+            (part.clone(), b"one".to_vec()),
+            (file.clone(), b"two".to_vec()),
+        ];
+        let said = write_files(&files).unwrap_err();
+        assert!(said.contains("file.part is to be written"), "{said}");
+        assert!(!file.exists() && !part.exists());
     }
 
     #[test]

@@ -1,17 +1,17 @@
-//! A file of test vectors: inputs of all ten calls, and what the second program leaves behind.
+//! A file of test vectors: inputs of all eleven calls, and what the second program leaves behind.
 //!
 //! # The file
 //!
 //! All numbers have the low byte first; signed ones are two's complement.
 //!
 //! ```text
-//! bytes 0-7    the letters BLVECT01
+//! bytes 0-7    the letters BLVECT02
 //! bytes 8-11   the number of entries
 //! bytes 12-15  the number of entries that are calls
 //! then the entries, one after the other, to the end of the file
 //! ```
 //!
-//! A replay holds seventeen slots, each an array and a length. At the start all entries of all
+//! A replay holds eighteen slots, each an array and a length. At the start all entries of all
 //! arrays are zero and all lengths are 0. An entry of the file is a head of eight bytes and then
 //! `count` elements of `width` bytes (at most 1,700 bytes in all):
 //!
@@ -44,12 +44,13 @@
 //! | 15 | wanted: the z2 dagger output | i8 | 520 |
 //! | 16 | wanted: the list output | u16 | 64 |
 //! | 17 | wanted: the record output | u8 | 1700 |
+//! | 18 | wanted: the rests output | i16 | 520 |
 //!
 //! Calls are 1 key test (f, g, a), 2 commitment (a, y1, y2), 3 response (f, g, a, y1, y2, list,
 //! sign, thresholds, words), 4 rebuild (a, z1, z2 dagger, list), 5 comparison (list, hashed list),
 //! 6 writer (z1, z2 dagger, list), 7 reader (record), 8, 9, 10 the z1, z2 dagger and list sections
-//! (record). A call takes its inputs from the slots, at their lengths. Its elements are 26 bytes
-//! (width 1):
+//! (record), 11 commitment with rests (a, y1, y2). A call takes its inputs from the slots, at their
+//! lengths. Its elements are 28 bytes (width 1):
 //!
 //! ```text
 //! 0-3    set asked for
@@ -59,13 +60,14 @@
 //! 8-9    wanted count of words (response, else 0)
 //! 10-11  wanted start of the part (sections, else 0)
 //! 12-13  wanted length of the part (sections, else 0)
-//! 14-15  length of the rounded output that is lent (commitment, rebuild)
+//! 14-15  length of the rounded output that is lent (commitment, with rests too, and rebuild)
 //! 16-17  length of the z1 output (response, reader)
 //! 18-19  length of the z2 dagger output (response, reader)
 //! 20-21  length of the list output (reader)
 //! 22-23  length of the record output (writer)
-//! 24     sign bit
-//! 25     fill
+//! 24-25  length of the rests output (commitment with rests)
+//! 26     sign bit
+//! 27     fill
 //! ```
 //!
 //! Before a call every entry of its output arrays is the number `fill` (1 to 127). After it, where
@@ -78,7 +80,7 @@ pub mod replay;
 pub mod slots;
 
 /// The letters that a file of vectors starts with.
-pub const LETTERS: &[u8; 8] = b"BLVECT01";
+pub const LETTERS: &[u8; 8] = b"BLVECT02";
 
 pub use cases::vectors;
 pub use replay::{replay, Fault};

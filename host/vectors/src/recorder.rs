@@ -146,7 +146,7 @@ fn differing_runs(held: &[u8], wanted: &[u8], width: usize) -> Vec<Range<usize>>
     runs
 }
 
-/// The 26 bytes of a call.
+/// The 28 bytes of a call.
 fn encoded(asked: &Asked, answered: &Answered) -> Vec<u8> {
     let mut bytes = asked.set.to_le_bytes().to_vec();
     bytes.extend([answered.number as u8, answered.set as u8]);
@@ -161,6 +161,7 @@ fn encoded(asked: &Asked, answered: &Answered) -> Vec<u8> {
         lengths.z2_dagger,
         lengths.list,
         lengths.record,
+        lengths.rests,
     ] {
         let short = u16::try_from(number).expect("within a record or a row of words");
         bytes.extend(short.to_le_bytes());

@@ -7,7 +7,7 @@ use second::testing::calls::{Answered, Call, OutputLengths};
 use std::collections::BTreeMap;
 use std::fmt;
 
-/// How often each call (1 to 10) gave each number.
+/// How often each call (1 to 11) gave each number.
 pub type Counts = BTreeMap<(u8, u32), u32>;
 
 /// Why a replay ends early.
@@ -43,7 +43,7 @@ impl fmt::Display for Fault {
 pub fn replay(file: &[u8]) -> Result<Counts, Fault> {
     let mut rest = file;
     if take(&mut rest, 8)? != LETTERS {
-        return Err(Fault::malformed("the letters are not BLVECT01"));
+        return Err(Fault::malformed("the letters are not BLVECT02"));
     }
     let entries = number(take(&mut rest, 4)?);
     let calls = number(take(&mut rest, 4)?);
@@ -114,11 +114,11 @@ fn slot_with_room(
 }
 
 fn one_call(call: Call, elements: &[u8], slots: &Slots) -> Result<Answered, Fault> {
-    if elements.len() != 26 {
+    if elements.len() != 28 {
         let what = format!("a call of {} bytes", elements.len());
         return Err(Fault::Malformed(what));
     }
-    if elements[24] > 1 || !(1..=127).contains(&elements[25]) {
+    if elements[26] > 1 || !(1..=127).contains(&elements[27]) {
         let what = "a sign bit not 0 or 1, or a fill not 1 to 127";
         return Err(Fault::malformed(what));
     }
@@ -127,13 +127,14 @@ fn one_call(call: Call, elements: &[u8], slots: &Slots) -> Result<Answered, Faul
         set: number(&elements[..4]) as u32,
         lengths: OutputLengths {
             rounded: short(14),
+            rests: short(24),
             z1: short(16),
             z2_dagger: short(18),
             list: short(20),
             record: short(22),
         },
-        sign: elements[24] == 1,
-        fill: elements[25],
+        sign: elements[26] == 1,
+        fill: elements[27],
     };
     let wanted = Answered {
         number: u32::from(elements[4]),

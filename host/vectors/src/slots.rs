@@ -1,4 +1,4 @@
-//! The seventeen slots, and a call on them by the second program.
+//! The eighteen slots, and a call on them by the second program.
 
 use second::testing::calls::{run, Answered, Call, Input, OutputLengths, Outputs};
 
@@ -100,12 +100,13 @@ pub const WANTED_Z1: usize = 14;
 pub const WANTED_Z2_DAGGER: usize = 15;
 pub const WANTED_LIST: usize = 16;
 pub const WANTED_RECORD: usize = 17;
+pub const WANTED_RESTS: usize = 18;
 
 /// Room for the walks that are recorded.
 pub const WORDS_ROOM: usize = 64;
 
-/// Width and room of slots 1 to 17.
-const ROOMS: [(usize, usize); 17] = [
+/// Width and room of slots 1 to 18.
+const ROOMS: [(usize, usize); 18] = [
     (1, 520),
     (1, 520),
     (2, 520),
@@ -123,6 +124,7 @@ const ROOMS: [(usize, usize); 17] = [
     (1, 520),
     (2, 64),
     (1, 1700),
+    (2, 520),
 ];
 
 /// What a call takes beside the slots.
@@ -147,7 +149,7 @@ impl Default for Slots {
 }
 
 impl Slots {
-    /// The slot of this number, 1 to 17.
+    /// The slot of this number, 1 to 18.
     pub fn get(&self, number: usize) -> &Slot {
         &self.0[number - 1]
     }
@@ -165,12 +167,14 @@ impl Slots {
     pub fn call(&self, call: Call, asked: &Asked) -> (Answered, Vec<Output>) {
         let lengths = asked.lengths;
         let mut rounded = vec![u16::from(asked.fill); lengths.rounded];
+        let mut rests = vec![i16::from(asked.fill); lengths.rests];
         let mut z1 = vec![i16::from(asked.fill); lengths.z1];
         let mut z2_dagger = vec![asked.fill as i8; lengths.z2_dagger];
         let mut list = vec![u16::from(asked.fill); lengths.list];
         let mut record = vec![asked.fill; lengths.record];
         let outputs = Outputs {
             rounded: &mut rounded,
+            rests: &mut rests,
             z1: &mut z1,
             z2_dagger: &mut z2_dagger,
             list: &mut list,
@@ -182,6 +186,7 @@ impl Slots {
         let z2_dagger = (WANTED_Z2_DAGGER, bytes_of(&z2_dagger));
         let outputs = match call {
             Call::Commitment | Call::Rebuild => vec![rounded],
+            Call::CommitmentWithRests => vec![rounded, (WANTED_RESTS, bytes_of(&rests))],
             Call::Respond => vec![z1, z2_dagger],
             Call::Write => vec![(WANTED_RECORD, record)],
             Call::Read => vec![z1, z2_dagger, (WANTED_LIST, bytes_of(&list))],

@@ -48,25 +48,36 @@ fn damage_is_noticed() {
     // An entry of a wanted commitment, and the wanted number of the first commitment.
     differs(find(&file, [1, 13]) + 8, "Commitment: slot 13");
     differs(find(&file, [3, 2]) + 8 + 4, "Commitment");
-    assert!(damaged(0).to_string().contains("BLVECT01"));
+    differs(find(&file, [1, 18]) + 8, "CommitmentWithRests: slot 18");
+    assert!(damaged(0).to_string().contains("BLVECT02"));
     assert!(replay(&file[..file.len() - 1]).is_err());
     let longer = [&file[..], &[0]].concat();
     assert!(replay(&longer).is_err());
 }
 
-/// A file of one entry with these bytes.
-fn with_entry(entry: &[u8]) -> Vec<u8> {
-    [b"BLVECT01\x01\0\0\0\0\0\0\0", entry].concat()
+/// A file of these entries.
+fn file_of(entries: &[Vec<u8>]) -> Vec<u8> {
+    let calls = entries.iter().filter(|entry| entry[0] == 3).count();
+    let counts = [entries.len() as u32, calls as u32].map(u32::to_le_bytes);
+    [b"BLVECT02", counts.as_flattened(), &entries.concat()].concat()
+}
+
+/// A call of set 1 with this wanted number.
+fn call_entry(call: u8, number: u8) -> Vec<u8> {
+    let mut entry = vec![3, call, 1, 0, 0, 0, 28, 0, 1, 0, 0, 0, number];
+    entry.resize(8 + 27, 0);
+    entry.push(1);
+    entry
 }
 
 #[test]
 fn malformed_entries_are_named() {
     let malformed = |entry: &[u8], said: &str| {
-        let fault = replay(&with_entry(entry)).unwrap_err();
+        let fault = replay(&file_of(&[entry.to_vec()])).unwrap_err();
         assert_eq!(fault, Fault::Malformed(format!("entry 0: {said}")));
     };
     malformed(&[1, 0, 1, 0, 0, 0, 0, 0], "no slot 0");
-    malformed(&[2, 18, 1, 0, 0, 0, 0, 0], "no slot 18");
+    malformed(&[2, 19, 1, 0, 0, 0, 0, 0], "no slot 19");
     malformed(&[1, 1, 2, 0, 0, 0, 0, 0], "slot 1 has another width than 2");
     malformed(
         &[1, 1, 1, 0, 9, 2, 0, 0],
@@ -77,11 +88,28 @@ fn malformed_entries_are_named() {
         "slot 1 has room for 520, not 521",
     );
     malformed(&[1, 1, 1, 0, 0, 0, 9, 0], "the file ends too soon");
-    malformed(&[3, 11, 1, 0, 0, 0, 0, 0], "no call 11");
+    malformed(&[3, 12, 1, 0, 0, 0, 0, 0], "no call 12");
     malformed(&[3, 1, 1, 0, 0, 0, 0, 0], "a call of 0 bytes");
     malformed(&[4, 1, 1, 0, 0, 0, 0, 0], "no entry of kind 4");
     let zero = "byte 3 of its head is not zero";
     malformed(&[1, 1, 1, 7, 0, 0, 0, 0], zero);
+}
+
+#[test]
+fn both_outputs_of_a_commitment_with_rests_have_their_lengths() {
+    // a, y1, y2 and the wanted outputs at 512 zeros.
+    let zeros = [3, 4, 5, 13, 18].map(|slot| vec![1, slot, 2, 0, 0, 2, 0, 0]);
+    let replayed = |rounded: u16, rests: u16, number: u8| {
+        let mut call = call_entry(11, number);
+        call[8 + 14..][..2].copy_from_slice(&rounded.to_le_bytes());
+        call[8 + 24..][..2].copy_from_slice(&rests.to_le_bytes());
+        replay(&file_of(&[&zeros[..], &[call]].concat()))
+    };
+    assert!(replayed(512, 512, 0).is_ok());
+    for (rounded, rests) in [(512, 511), (512, 513), (512, 0), (511, 512)] {
+        assert!(replayed(rounded, rests, 2).is_ok());
+        assert!(replayed(rounded, rests, 0).is_err());
+    }
 }
 
 #[test]
@@ -97,11 +125,7 @@ fn a_replay_ends_with_the_status_of_its_fault() {
         program.unwrap().status.code()
     };
     // A key test of nothing, which gives 2, and one that is said to give 0.
-    let mut call = vec![3, 1, 1, 0, 0, 0, 26, 0, 1, 0, 0, 0, 2];
-    call.resize(8 + 25, 0);
-    call.push(1);
-    let mut file = with_entry(&call);
-    file[12] = 1;
+    let mut file = file_of(&[call_entry(1, 2)]);
     assert_eq!(status_of(&file), Some(0));
     file[16 + 8 + 4] = 0;
     assert_eq!(status_of(&file), Some(1));

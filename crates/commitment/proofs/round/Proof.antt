@@ -12,6 +12,7 @@ use Rattle.sets.specs.Numbers.{dimension, twiceModulus}
 use Rattle.sets.proofs.Alike.{p-small}
 use Rattle.rounding.specs.Rounding.{upper}
 use Rattle.rounding.proofs.Laws.{upper-below}
+use Rattle.rounding.proofs.Digits.{digits-are}
 use Rattle.commitment.proofs.round.Statement.{statement}
 use Rattle.commitment.proofs.round.Tie as tie
 
@@ -51,31 +52,31 @@ loop-holds c =
     let s = c .before .before .before in
     (lit≤ tt, start (U s) (map (upper (S s)) (U s)) (long s))
 
-mul-upper-digits : tie.Need-mul-upper-digits Inv-loop μ-loop
-mul-upper-digits c = omega arith
+mul-round : tie.Need-mul-round Inv-loop μ-loop
+mul-round c = omega arith
 
-slice-read-upper-digits : tie.Need-slice-read-upper-digits Inv-loop μ-loop
-slice-read-upper-digits c = omega arith
+slice-read-round : tie.Need-slice-read-round Inv-loop μ-loop
+slice-read-round c = omega arith
 
-cast-upper-digits : tie.Need-cast-upper-digits Inv-loop μ-loop
-cast-upper-digits c = omega (arith, reduced (c .before .before) (omega arith))
+cast-round : tie.Need-cast-round Inv-loop μ-loop
+cast-round c = omega (arith, reduced (c .before .before) (omega arith))
 
-upper-digits-requires : tie.Need-upper-digits-requires Inv-loop μ-loop
-upper-digits-requires c κs =
+round-requires : tie.Need-round-requires Inv-loop μ-loop
+round-requires c κs =
     let l = c .before .before in
     (l .before .before .d .ensures, l .before .p .ensures, reduced l (omega arith))
 
 cast-u : tie.Need-cast-u Inv-loop μ-loop
 cast-u c =
-    let l = c .before .before .before in
+    let l = c .before .before .before .before in
     let s = l .before .before .before .before in
-    omega (arith, c .upper-digits .ensures, upper-below (S s) (getD (l .loop .u) (l .loop .i) 0), p-small (S s))
+    omega (arith, digits-are (c .before .round .ensures), upper-below (S s) (getD (l .loop .u) (l .loop .i) 0), p-small (S s))
 
 mul-u : tie.Need-mul-u Inv-loop μ-loop
 mul-u c = omega arith
 
 slice-write-u : tie.Need-slice-write-u Inv-loop μ-loop
-slice-write-u c = omega (arith, c .before .before .before .loop .inv .1 .long)
+slice-write-u c = omega (arith, c .before .before .before .before .loop .inv .1 .long)
 
 add-i : tie.Need-add-i Inv-loop μ-loop
 add-i c = omega arith
@@ -85,12 +86,12 @@ loop-less c = omega arith
 
 loop-again : tie.Need-loop-again Inv-loop μ-loop
 loop-again c =
-    let l = c .before .before .before in
+    let l = c .before .before .before .before in
     let s = l .before .before .before .before in
     let i = l .loop .i in (
       omega arith,
       more (U s) (map (upper (S s)) (U s)) (long s) (l .loop .inv .1) 0 _ (omega arith)
-          (c .upper-digits .ensures ∙ ap (upper (S s)) (old l (omega arith)) ∙ sym (getD-map (upper (S s)) (U s) i 0 0 (omega arith))),
+          (digits-are (c .before .round .ensures) ∙ ap (upper (S s)) (old l (omega arith)) ∙ sym (getD-map (upper (S s)) (U s) i 0 0 (omega arith))),
     )
 
 same-length : tie.Need-same-length Inv-loop μ-loop
@@ -110,10 +111,10 @@ round-spec =
     d-requires
     p-requires
     loop-holds
-    mul-upper-digits
-    slice-read-upper-digits
-    cast-upper-digits
-    upper-digits-requires
+    mul-round
+    slice-read-round
+    cast-round
+    round-requires
     cast-u
     mul-u
     slice-write-u

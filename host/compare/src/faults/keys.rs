@@ -1,8 +1,7 @@
 //! Keys: refusals 3, 6 and 7.
 
-use super::{fault, place_in, put, set_of, Fault, WITH_KEY, WITH_PUBLIC};
+use super::{fault, place_in, put, set_of, Fault, WITH_KEY, WITH_PUBLIC, WITH_ROUNDED};
 use second::parameters::{N, Q};
-use second::testing::calls::Call::{Commitment, Rebuild};
 use second::testing::calls::Input;
 use second::testing::keys::{self, Key};
 use second::testing::noise::Noise;
@@ -19,7 +18,7 @@ pub const FAULTS: &[Fault] = &[
     fault("coefficient of a", WITH_PUBLIC, |input, noise| {
         put(&mut input.a, &[12289, 12290, 24577, 32768, 65535], noise)
     }),
-    fault("any a", &[Commitment, Rebuild], any_a),
+    fault("any a", WITH_ROUNDED, any_a),
     fault("key past K", WITH_KEY, key_past_k),
     fault("key at K", WITH_KEY, key_at_k),
     fault("key relation", WITH_KEY, break_relation),

@@ -1,8 +1,10 @@
 //! Sets and lengths: refusals 1 and 2.
 
-use super::{fault, Fault, WITH_KEY, WITH_MASKS, WITH_PUBLIC, WITH_SET, WITH_SIGNATURE};
+use super::{
+    fault, Fault, WITH_KEY, WITH_MASKS, WITH_PUBLIC, WITH_ROUNDED, WITH_SET, WITH_SIGNATURE,
+};
 use second::parameters::{LIST_BUFFER, N};
-use second::testing::calls::Call::{Commitment, Read, Rebuild, Respond};
+use second::testing::calls::Call::{CommitmentWithRests, Read, Respond};
 use second::testing::calls::Input;
 use second::testing::noise::Noise;
 
@@ -35,8 +37,13 @@ pub const FAULTS: &[Fault] = &[
     }),
     fault(
         "length of the rounded output",
-        &[Commitment, Rebuild],
+        WITH_ROUNDED,
         |input, noise| input.lengths.rounded = other_length(N, noise),
+    ),
+    fault(
+        "length of the rests output",
+        &[CommitmentWithRests],
+        |input, noise| input.lengths.rests = other_length(N, noise),
     ),
     fault(
         "length of the z1 output",

@@ -51,12 +51,14 @@ const WITH_SET: &[Call] = &[
     Rebuild,
     Compare,
     Write,
+    CommitmentWithRests,
     Kappa,
     RecordBytes,
 ];
 const WITH_KEY: &[Call] = &[KeyTest, Respond];
-const WITH_PUBLIC: &[Call] = &[KeyTest, Commitment, Respond, Rebuild];
-const WITH_MASKS: &[Call] = &[Commitment, Respond];
+const WITH_PUBLIC: &[Call] = &[KeyTest, Commitment, Respond, Rebuild, CommitmentWithRests];
+const WITH_MASKS: &[Call] = &[Commitment, Respond, CommitmentWithRests];
+const WITH_ROUNDED: &[Call] = &[Commitment, Rebuild, CommitmentWithRests];
 const WITH_LIST: &[Call] = &[Respond, Rebuild, Compare, Write];
 const WITH_SIGNATURE: &[Call] = &[Rebuild, Write];
 const WITH_RECORD: &[Call] = &[Read, Z1Section, Z2Section, ListSection];

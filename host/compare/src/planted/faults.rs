@@ -44,13 +44,14 @@ pub enum Wrong {
 #[derive(Clone, Copy, Debug, PartialEq, Eq)]
 pub enum Buffer {
     Rounded,
+    Rests,
     Z1,
     Z2,
     List,
     Record,
 }
 
-use Buffer::{List, Record, Rounded, Z1, Z2};
+use Buffer::{List, Record, Rests, Rounded, Z1, Z2};
 
 impl Planted {
     pub fn name(&self) -> String {
@@ -82,6 +83,7 @@ impl fmt::Display for Buffer {
     fn fmt(&self, out: &mut fmt::Formatter<'_>) -> fmt::Result {
         out.write_str(match self {
             Rounded => "the rounded vector",
+            Rests => "the rests",
             Z1 => "z1",
             Z2 => "z2 dagger",
             List => "the list",
@@ -94,6 +96,7 @@ impl fmt::Display for Buffer {
 fn written(call: Call) -> &'static [Buffer] {
     match call {
         Commitment | Rebuild => &[Rounded],
+        CommitmentWithRests => &[Rounded, Rests],
         Respond => &[Z1, Z2],
         Write => &[Record],
         Read => &[Z1, Z2, List],

@@ -119,6 +119,19 @@ wrapped!(
 );
 
 wrapped!(
+    CommitmentWithRests, __wrap_bursztok_commitment_with_rests,
+    __real_bursztok_commitment_with_rests,
+    (
+        set: u32, a: *const u16, a_len: usize, y1: *const i16, y1_len: usize, y2: *const i16,
+        y2_len: usize, out: *mut u16, out_len: usize, rests: *mut i16, rests_len: usize,
+    ) -> Answer,
+    |found, answered| {
+        answered.spoil_buffer(Buffer::Rounded, out, out_len);
+        answered.spoil_buffer(Buffer::Rests, rests, rests_len);
+    }
+);
+
+wrapped!(
     Respond, __wrap_bursztok_respond, __real_bursztok_respond,
     (
         set: u32, f: *const i8, f_len: usize, g: *const i8, g_len: usize, a: *const u16,

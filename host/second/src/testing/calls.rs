@@ -3,7 +3,7 @@
 use crate::answers::number_and_place;
 use crate::parameters::{Set, LIST_BUFFER, N};
 use crate::record::total;
-use crate::{commitment, compare, key_test, read, rebuild, respond, write};
+use crate::{commitment, commitment_with_rests, compare, key_test, read, rebuild, respond, write};
 use crate::{kappa, list_section, record_bytes, z1_section, z2_section};
 
 #[derive(Clone, Copy, Debug, PartialEq, Eq, PartialOrd, Ord)]
@@ -18,12 +18,13 @@ pub enum Call {
     Z1Section,
     Z2Section,
     ListSection,
+    CommitmentWithRests,
     Kappa,
     RecordBytes,
 }
 
 impl Call {
-    pub const ALL: [Call; 12] = [
+    pub const ALL: [Call; 13] = [
         Call::KeyTest,
         Call::Commitment,
         Call::Respond,
@@ -34,6 +35,7 @@ impl Call {
         Call::Z1Section,
         Call::Z2Section,
         Call::ListSection,
+        Call::CommitmentWithRests,
         Call::Kappa,
         Call::RecordBytes,
     ];
@@ -58,12 +60,13 @@ impl Call {
             Call::Z1Section => "z1 section",
             Call::Z2Section => "z2 section",
             Call::ListSection => "list section",
+            Call::CommitmentWithRests => "commitment with rests",
             Call::Kappa => "kappa",
             Call::RecordBytes => "record bytes",
         }
     }
 
-    /// Whether it is one of paper 01's ten, which have a number.
+    /// Whether it is one of the papers' eleven, which have a number.
     pub fn has_number(self) -> bool {
         !matches!(self, Call::Kappa | Call::RecordBytes)
     }
@@ -72,7 +75,7 @@ impl Call {
     pub fn numbers(self) -> &'static [u32] {
         match self {
             Call::KeyTest => &[0, 1, 2, 3, 7, 6],
-            Call::Commitment => &[0, 1, 2, 3, 4],
+            Call::Commitment | Call::CommitmentWithRests => &[0, 1, 2, 3, 4],
             Call::Respond => &[0, 1, 2, 3, 4, 5, 7, 6, 8, 9, 10, 11],
             Call::Rebuild => &[0, 1, 2, 3, 5, 10, 11],
             Call::Compare => &[0, 1, 5, 12],
@@ -108,6 +111,7 @@ pub struct Input {
 #[derive(Clone, Copy, Debug, Default, PartialEq, Eq)]
 pub struct OutputLengths {
     pub rounded: usize,
+    pub rests: usize,
     pub z1: usize,
     pub z2_dagger: usize,
     pub list: usize,
@@ -119,6 +123,7 @@ impl OutputLengths {
     pub fn stated(set: Set) -> OutputLengths {
         OutputLengths {
             rounded: N,
+            rests: N,
             z1: N,
             z2_dagger: N,
             list: LIST_BUFFER,
@@ -130,6 +135,7 @@ impl OutputLengths {
 /// The output buffers. Each call writes to those that it has.
 pub struct Outputs<'a> {
     pub rounded: &'a mut [u16],
+    pub rests: &'a mut [i16],
     pub z1: &'a mut [i16],
     pub z2_dagger: &'a mut [i8],
     pub list: &'a mut [u16],
@@ -183,6 +189,9 @@ pub fn run(call: Call, input: &Input, out: Outputs) -> Answered {
     let outcome = match call {
         Call::KeyTest => key_test(*set, &input.f, &input.g, a),
         Call::Commitment => commitment(*set, a, &input.y1, &input.y2, out.rounded),
+        Call::CommitmentWithRests => {
+            commitment_with_rests(*set, a, &input.y1, &input.y2, out.rounded, out.rests)
+        }
         Call::Rebuild => rebuild(*set, a, &input.z1, &input.z2_dagger, list, out.rounded),
         Call::Compare => compare(*set, list, &input.hashed),
         Call::Write => write(*set, &input.z1, &input.z2_dagger, list, out.record),

@@ -1,6 +1,7 @@
 //! The checker's calls: the refusals of rebuild and comparison, and sums at their limit.
 
-use super::{with_lengths, Recording};
+use super::faults::ROUNDED_OUTPUT;
+use super::Recording;
 use crate::slots::{A, HASHED, LIST, RECORD, Z1, Z2_DAGGER};
 use second::parameters::N;
 use second::record::header;
@@ -14,10 +15,7 @@ impl Recording<'_> {
         let asked = self.asked();
         let call = Call::Rebuild;
         self.sets_and_lengths(call, asked, &[(A, N), (Z1, N), (Z2_DAGGER, N)]);
-        for length in [0, 511, 513] {
-            let other = with_lengths(asked, |lengths| lengths.rounded = length);
-            self.recorder.call(call, other);
-        }
+        self.output_lengths(call, asked, &[ROUNDED_OUTPUT]);
         self.recorder.patched(A, 511, 12289u16, |recorder| {
             recorder.call(call, asked);
             // Two faults: the list's comes after the coefficient's.

@@ -6,6 +6,14 @@ use crate::slots::{Asked, Z1, Z2_DAGGER};
 use second::testing::boundary::largest_z2_dagger;
 use second::testing::calls::{Call, OutputLengths};
 
+/// One of the lengths of a call's outputs.
+pub(super) type Length = fn(&mut OutputLengths) -> &mut usize;
+
+pub(super) const ROUNDED_OUTPUT: Length = |lengths| &mut lengths.rounded;
+pub(super) const RESTS_OUTPUT: Length = |lengths| &mut lengths.rests;
+pub(super) const Z1_OUTPUT: Length = |lengths| &mut lengths.z1;
+pub(super) const Z2_OUTPUT: Length = |lengths| &mut lengths.z2_dagger;
+
 impl Recording<'_> {
     /// A call with a set above 4, and with each of these slots one short and one long.
     pub(super) fn sets_and_lengths(&mut self, call: Call, asked: Asked, slots: &[(usize, usize)]) {
@@ -21,14 +29,11 @@ impl Recording<'_> {
         }
     }
 
-    /// Wrong lengths of the z1 and z2 dagger outputs.
-    pub(super) fn vector_lengths(&mut self, call: Call, asked: Asked) {
+    /// Wrong lengths of these outputs, each a vector.
+    pub(super) fn output_lengths(&mut self, call: Call, asked: Asked, outputs: &[Length]) {
         for length in [0, 511, 513] {
-            for change in [
-                |lengths: &mut OutputLengths, length| lengths.z1 = length,
-                |lengths: &mut OutputLengths, length| lengths.z2_dagger = length,
-            ] {
-                let other = with_lengths(asked, |lengths| change(lengths, length));
+            for output in outputs {
+                let other = with_lengths(asked, |lengths| *output(lengths) = length);
                 self.recorder.call(call, other);
             }
         }

@@ -1,5 +1,6 @@
 //! The record's calls: the refusals of writer, reader and sections.
 
+use super::faults::{Z1_OUTPUT, Z2_OUTPUT};
 use super::{with_lengths, Recording};
 use crate::slots::{LIST, RECORD, Z1, Z2_DAGGER};
 use second::parameters::N;
@@ -39,7 +40,7 @@ impl Recording<'_> {
     pub(super) fn reader_refusals(&mut self, signature: &Signature) {
         self.load_record(signature);
         let asked = self.asked();
-        self.vector_lengths(Call::Read, asked);
+        self.output_lengths(Call::Read, asked, &[Z1_OUTPUT, Z2_OUTPUT]);
         for length in [0, 38, 40] {
             let other = with_lengths(asked, |lengths| lengths.list = length);
             self.recorder.call(Call::Read, other);

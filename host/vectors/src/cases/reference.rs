@@ -1,4 +1,4 @@
-//! 01's reference point.
+//! 01's reference points, and 02's rests beside them.
 
 use super::{asked, load_key};
 use crate::recorder::Recorder;
@@ -19,8 +19,10 @@ pub fn reference_point(recorder: &mut Recorder) {
     for set in [0, 1] {
         recorder.call(Call::KeyTest, asked(set));
         recorder.call(Call::Commitment, asked(set));
+        recorder.call(Call::CommitmentWithRests, asked(set));
         recorder.call(Call::Respond, asked(set));
     }
+    rests(recorder);
     recorder.resize(WORDS, 11);
     recorder.call(Call::Respond, asked(1));
     recorder.resize(WORDS, 0);
@@ -45,4 +47,19 @@ pub fn reference_point(recorder: &mut Recorder) {
             recorder.call(Call::Rebuild, asked(1));
         });
     }
+}
+
+/// Sums, 12288 y1 + y2, on both sides of the first and of the last half step, for d = 10, 9 and 8;
+/// then 24577, and 25089 and 25090, which are reduced first.
+fn rests(recorder: &mut Recorder) {
+    let y2: [i16; 15] = [
+        511, 512, -515, -514, 255, 256, -259, -258, 127, 128, -131, -130, -1, 513, 514,
+    ];
+    recorder.patched_run(Y2, 0, &y2, |recorder| {
+        recorder.patched_run(Y1, 13, &[2i16, 2], |recorder| {
+            for set in 1..=4 {
+                recorder.call(Call::CommitmentWithRests, asked(set));
+            }
+        });
+    });
 }

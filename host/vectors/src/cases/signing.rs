@@ -1,6 +1,8 @@
 //! The signer's calls: sheets that are signed, and the refusals of commitment and response.
 
+use super::faults::{Length, RESTS_OUTPUT, ROUNDED_OUTPUT, Z1_OUTPUT, Z2_OUTPUT};
 use super::{with_lengths, Recording};
+use crate::recorder::Recorder;
 use crate::slots::{
     Asked, A, F, G, HASHED, LIST, THRESHOLDS, WORDS, WORDS_ROOM, Y1, Y2, Z1, Z2_DAGGER,
 };
@@ -9,6 +11,12 @@ use second::parameters::N;
 use second::response::sign_choices;
 use second::testing::calls::Call;
 use second::testing::sheet::{sign, Signed, Try};
+
+/// The calls that commit, with the outputs that they are lent.
+const COMMITTING: [(Call, &[Length]); 2] = [
+    (Call::Commitment, &[ROUNDED_OUTPUT]),
+    (Call::CommitmentWithRests, &[ROUNDED_OUTPUT, RESTS_OUTPUT]),
+];
 
 impl Recording<'_> {
     /// Sheets signed and checked. The last one is returned.
@@ -45,10 +53,12 @@ impl Recording<'_> {
         }
     }
 
-    /// Commitment and response.
+    /// Commitment, also with its rests, and response.
     pub(super) fn attempt(&mut self, attempt: &Try) {
         self.load_try(attempt);
-        self.call(Call::Commitment);
+        for (call, _) in COMMITTING {
+            self.call(call);
+        }
         let sign = attempt.sign;
         let asked = self.asked();
         self.recorder.call(Call::Respond, Asked { sign, ..asked });
@@ -64,15 +74,15 @@ impl Recording<'_> {
 
     pub(super) fn commitment_refusals(&mut self) {
         let asked = self.asked();
-        let call = Call::Commitment;
-        self.sets_and_lengths(call, asked, &[(A, N), (Y1, N), (Y2, N)]);
-        for length in [0, 511, 513] {
-            let other = with_lengths(asked, |lengths| lengths.rounded = length);
-            self.recorder.call(call, other);
+        for (call, outputs) in COMMITTING {
+            self.sets_and_lengths(call, asked, &[(A, N), (Y1, N), (Y2, N)]);
+            self.output_lengths(call, asked, outputs);
         }
-        self.recorder.patched(A, 3, 12289u16, |recorder| {
-            recorder.call(call, asked);
-        });
+        let committed = |recorder: &mut Recorder| {
+            for (call, _) in COMMITTING {
+                recorder.call(call, asked);
+            }
+        };
         for (slot, value) in [
             (Y1, 4096i16),
             (Y1, 4097),
@@ -80,10 +90,19 @@ impl Recording<'_> {
             (Y2, -4097),
             (Y2, i16::MIN),
         ] {
-            self.recorder.patched(slot, 500, value, |recorder| {
-                recorder.call(call, asked);
-            });
+            self.recorder.patched(slot, 500, value, committed);
         }
+        self.recorder.patched(A, 3, 12289u16, committed);
+        self.recorder.patched(Y1, 0, 4097i16, |recorder| {
+            // Two faults: the masks' comes after the coefficient's and after the lengths'.
+            recorder.patched(A, 511, 12289u16, committed);
+            for (call, outputs) in COMMITTING {
+                for output in outputs {
+                    let other = with_lengths(asked, |lengths| *output(lengths) = 511);
+                    recorder.call(call, other);
+                }
+            }
+        });
     }
 
     pub(super) fn response_refusals(&mut self, attempt: &Try) {
@@ -95,7 +114,7 @@ impl Recording<'_> {
         let call = Call::Respond;
         let lengths = [(F, N), (G, N), (A, N), (Y1, N), (Y2, N), (THRESHOLDS, 31)];
         self.sets_and_lengths(call, asked, &lengths);
-        self.vector_lengths(call, asked);
+        self.output_lengths(call, asked, &[Z1_OUTPUT, Z2_OUTPUT]);
         self.key_faults(call, asked);
         for (slot, value) in [(Y1, 4097i16), (Y2, -4097)] {
             self.recorder.patched(slot, 0, value, |recorder| {

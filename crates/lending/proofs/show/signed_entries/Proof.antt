@@ -1,0 +1,50 @@
+use Prim.Native.Nat.{_-_, _≤_}
+use lib.ListN.{length}
+use borrow.Author.Needs.{needs}
+use Rattle.lending.proofs.show.signed_entries.Statement.{statement}
+use Rattle.lending.proofs.show.signed_entries.Tie as tie
+
+abbrev Inv-loop : tie.InvT-loop
+Inv-loop row i₀ i = i ≤ length row
+
+abbrev μ-loop : tie.MeasureT-loop
+μ-loop row i₀ i = length row - i
+
+loop-holds : tie.Need-loop-holds Inv-loop μ-loop
+loop-holds c = search needs
+
+mul-signed : tie.Need-mul-signed Inv-loop μ-loop
+mul-signed c = search needs
+
+shared-slice-copy-out-signed : tie.Need-shared-slice-copy-out-signed Inv-loop μ-loop
+shared-slice-copy-out-signed c = search needs
+
+signed-requires : tie.Need-signed-requires Inv-loop μ-loop
+signed-requires c κs = search needs
+
+add-i : tie.Need-add-i Inv-loop μ-loop
+add-i c = search needs
+
+loop-less : tie.Need-loop-less Inv-loop μ-loop
+loop-less c = search needs
+
+loop-again : tie.Need-loop-again Inv-loop μ-loop
+loop-again c = search needs
+
+returns : tie.Need-returns Inv-loop μ-loop
+returns c = search needs
+
+pub signed-entries-spec : {M : Type 1} → statement M
+signed-entries-spec =
+    tie.close
+    (tie.spec
+    Inv-loop
+    μ-loop
+    loop-holds
+    mul-signed
+    shared-slice-copy-out-signed
+    signed-requires
+    add-i
+    loop-less
+    loop-again
+    returns)
