@@ -91,7 +91,7 @@ extern "C" {
 #endif
 
 /* The version of this header and of the library that it belongs to. */
-#define BURSZTOK_VERSION "0.1.0"
+#define BURSZTOK_VERSION "0.2.0"
 
 /* The length of every vector. */
 #define BURSZTOK_VECTOR 512
@@ -107,6 +107,7 @@ extern "C" {
 #define BURSZTOK_STACK_KEY_TEST 5800
 #define BURSZTOK_STACK_REBUILD 3900
 #define BURSZTOK_STACK_READ 3000
+/* With rests too. */
 #define BURSZTOK_STACK_COMMITMENT 2800
 #define BURSZTOK_STACK_WRITE 1300
 /* Each other call. */
@@ -180,8 +181,8 @@ bursztok_answer bursztok_commitment(uint32_t set,
  * beside each entry of out the rest of the sum that it was rounded from. A sum x has the rest
  * x - 2^d q, where q is (x + 2^(d-1)) / 2^d rounded down and out has q modulo p: how far x lies
  * from its rounded step, a whole number in -2^(d-1) .. 2^(d-1) - 1. The same masks make the same
- * out as in bursztok_commitment. Like the masks, the rests are secret: with out they tell the
- * sums.
+ * out as in bursztok_commitment. Beside out the rests all but tell the sums: keep them as the
+ * masks are kept.
  *
  * Refusals in order: 1, 2, 3, 4; 2 covers out and rests too. Number 0 writes all of out and of
  * rests (512 entries each).

@@ -1,2 +1,2 @@
--- 01, "Commitment".
+-- 01, "Commitment", and 02, C-20.
 pub mod Commitment

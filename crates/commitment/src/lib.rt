@@ -152,8 +152,7 @@ fn take_rests(s: Set, u: &[u16], rests: &mut [i16])
     let d = s.d();
     let p = s.p();
     for i in 0..Set::DIMENSION {
-        let r = rounding::round(s, d, p, u[i] as u32);
-        let rest = r.rest;
+        let rest = rounding::round(s, d, p, u[i] as u32).rest;
         rests[i] = rest;
     }
 }
