@@ -148,7 +148,7 @@ fn run(task: Task) -> ExitCode {
 fn measure(set: Set, budget: Duration) {
     say!("set {}", set.number());
     say!(
-        "  {:<11} {:>14} {:>12} {:>14} {:>12} {:>8}",
+        "  {:<21} {:>14} {:>12} {:>14} {:>12} {:>8}",
         "call",
         "library /s",
         "a call",
@@ -169,7 +169,7 @@ fn measure(set: Set, budget: Duration) {
         }
         let (library, second) = (median(turns.0), median(turns.1));
         say!(
-            "  {:<11} {:>14.0} {:>9.2} us {:>14.0} {:>9.2} us {:>8.2}",
+            "  {:<21} {:>14.0} {:>9.2} us {:>14.0} {:>9.2} us {:>8.2}",
             name,
             1e6 / library,
             library,
@@ -210,7 +210,7 @@ fn count_instructions(sets: &[Set], symbol: Option<&str>) -> ExitCode {
             match callgrind::inside(*set, name, symbol.unwrap_or(exported)) {
                 Ok(count) => {
                     entered |= count > 0;
-                    say!("  set {}  {name:<11} {count:>12}", set.number());
+                    say!("  set {}  {name:<21} {count:>12}", set.number());
                 }
                 Err(message) => {
                     warn!("bench: {message}");
