@@ -39,21 +39,20 @@ restsOf s a y1 y2 = map (rest s) (sums a y1 y2)
 abbrev pub isReduced : List ℕ → Type 0
 isReduced u = (k : ℕ) → getD u k 0 < twiceModulus
 
--- ---- the refusals of both calls in their order: 2, 3, 4. `lent` tells whether each vector to be filled has 512 entries
+-- ---- the refusals of both calls in their order: 2, 3, 4. `long` tells whether every vector of the call, read or written, has 512 entries
 unfoldable pub tested : Bool → List ℕ → List ℤ → List ℤ → Outcome
-tested lent a y1 y2 =
-    must (sized a && (sized y1 && sized y2)) WrongLength
-    (must lent WrongLength
+tested long a y1 y2 =
+    must long WrongLength
     (must (every isResidue a) CoefficientOutside
     (must (areMasks y1 y2) MaskOutside
-    Done)))
+    Done))
 
 -- ---- the commitment
 
 -- the commitment for a set; `out` is what the output vector held before
 abbrev pub commitmentFor : Set → List ℕ → List ℤ → List ℤ → List ℕ → Filled
 commitmentFor s a y1 y2 out =
-    unless (tested (sized out) a y1 y2) (λ o. filled o out)
+    unless (tested (sized a && (sized y1 && (sized y2 && sized out))) a y1 y2) (λ o. filled o out)
     (filled Done (committed s a y1 y2))
 
 -- the commitment: 1, 2, 3, 4
@@ -81,7 +80,7 @@ keeping old o = withRests o (old .digits) (old .rests)
 -- the commitment with rests for a set; `old` is what the output vectors held before
 abbrev pub withRestsFor : Set → List ℕ → List ℤ → List ℤ → Outputs → WithRests
 withRestsFor s a y1 y2 old =
-    unless (tested (sized (old .digits) && sized (old .rests)) a y1 y2) (keeping old)
+    unless (tested (sized a && (sized y1 && (sized y2 && (sized (old .digits) && sized (old .rests))))) a y1 y2) (keeping old)
     (withRests Done (committed s a y1 y2) (restsOf s a y1 y2))
 
 -- the commitment with rests: 1, 2, 3, 4

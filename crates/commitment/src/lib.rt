@@ -24,7 +24,8 @@ pub fn commitment(set: u32, a: &[u16], y1: &[i16], y2: &[i16], out: &mut [u16]) 
 fn commitment_for(s: Set, a: &[u16], y1: &[i16], y2: &[i16], out: &mut [u16]) -> Outcome
     ensures { λ r. ⌜ filled r (now (out .exit)) ≡ commitmentFor s (now (a .entry)) (now (y1 .entry)) (now (y2 .entry)) (now (out .entry)) ⌝ }
 {
-    let o = tested(out.len() == Set::DIMENSION, a, y1, y2);
+    let four = vectors::four_sized(a.len(), y1.len(), y2.len(), out.len());
+    let o = tested(four, a, y1, y2);
     if !o.is_done() {
         return o;
     }
@@ -59,7 +60,8 @@ fn with_rests_for(
 ) -> Outcome
     ensures { λ r. ⌜ withRests r (now (out .exit)) (now (rests .exit)) ≡ withRestsFor s (now (a .entry)) (now (y1 .entry)) (now (y2 .entry)) (outputs (now (out .entry)) (now (rests .entry))) ⌝ }
 {
-    let o = tested(vectors::two_sized(out.len(), rests.len()), a, y1, y2);
+    let five = vectors::five_sized(a.len(), y1.len(), y2.len(), out.len(), rests.len());
+    let o = tested(five, a, y1, y2);
     if !o.is_done() {
         return o;
     }
@@ -67,14 +69,11 @@ fn with_rests_for(
     Outcome::Done
 }
 
-// Refusals 2, 3, 4. `lent` tells whether each vector to be filled has 512 entries.
-fn tested(lent: bool, a: &[u16], y1: &[i16], y2: &[i16]) -> Outcome
-    ensures { λ r. ⌜ r ≡ testedBy lent (now (a .entry)) (now (y1 .entry)) (now (y2 .entry)) ⌝ }
+// Refusals 2, 3, 4. `long` tells whether every vector of the call has 512 entries.
+fn tested(long: bool, a: &[u16], y1: &[i16], y2: &[i16]) -> Outcome
+    ensures { λ r. ⌜ r ≡ testedBy long (now (a .entry)) (now (y1 .entry)) (now (y2 .entry)) ⌝ }
 {
-    if !vectors::three_sized(a.len(), y1.len(), y2.len()) {
-        return Outcome::WrongLength;
-    }
-    if !lent {
+    if !long {
         return Outcome::WrongLength;
     }
     if !vectors::all_below(a, Set::MODULUS as u16) {

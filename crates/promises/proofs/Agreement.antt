@@ -144,7 +144,7 @@ module _ (s : Set) (c : Lent) (before : Admitted s c) where
       ∙ restored-at i inside ∙ sym (getD-map (upper s) u i 0 0 (omega (arith, u-512))))
 
 -- ---- the calls
-sized-yes : {A : Type 0} (x : List A) → length x ≡ dimension → sized x ≡ true
+pub sized-yes : {A : Type 0} (x : List A) → length x ≡ dimension → sized x ≡ true
 sized-yes x e = eq-eqb (length x) dimension e
 
 module _ (set : ℕ) (s : Set) (known : askedOf set ≡ Known s) (a : List ℕ) (la : length a ≡ dimension) (residues : every isResidue a ≡ true) where

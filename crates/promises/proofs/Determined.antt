@@ -23,7 +23,7 @@ filled-parts : {o o′ : Outcome} {c c′ : List ℕ} (answer : Filled) → fill
 filled-parts answer p q = (cc, cc)
 
 -- one equation fixes the outcome and both vectors
-with-rests-parts : {o o′ : Outcome} {x x′ : List ℕ} {y y′ : List ℤ} (answer : WithRests) → withRests o x y ≡ answer → withRests o′ x′ y′ ≡ answer
+pub with-rests-parts : {o o′ : Outcome} {x x′ : List ℕ} {y y′ : List ℤ} (answer : WithRests) → withRests o x y ≡ answer → withRests o′ x′ y′ ≡ answer
     → (o ≡ o′) × (x ≡ x′) × (y ≡ y′)
 with-rests-parts answer p q = (cc, cc, cc)
 

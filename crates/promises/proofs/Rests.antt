@@ -4,7 +4,6 @@ use mathlib.Core.Bool.{Bool, true, false, _&&_, and-true}
 use mathlib.Core.List.{List, map}
 use Prim.Native.Nat.{ℕ, _*_, _%_, _^_, _<_}
 use native.Mathlib.Omega.{arith}
-use borrow.Author.Tests.{eq-eqb}
 use lib.IntN.{ℤ, pos, _+ℤ_}
 use lib.ListN.{length, getD, length-map}
 use Rattle.laws.specs.Refusals.{must}
@@ -24,13 +23,18 @@ use Rattle.rounding.proofs.Laws.{quotient-nearest, upper-is-nearest, rest-range
 use Rattle.vectors.specs.Vectors.{sized}
 use Rattle.commitment.specs.Commitment.{sums, committed, restsOf, tested, commitmentFor, commitment, Outputs, withRests, keeping, withRestsFor, commitmentWithRests}
 use Rattle.commitment.proofs.Sums.{length-sums}
-use Rattle.commitment.proofs.Tests.{inputs-sized}
+use Rattle.commitment.proofs.Tests.{tested-long, sized-five}
 use Rattle.promises.specs.Rests.{digitsOf, SameDigits, RestsOfSums}
+use Rattle.promises.proofs.Agreement.{sized-yes}
+use Rattle.promises.proofs.Determined.{with-rests-parts}
 
 -- ---- the same digits
 module _ (a : List ℕ) (y1 y2 : List ℤ) (old : Outputs) (long : length (old .rests) ≡ dimension) where
-  lent : sized (old .digits) && sized (old .rests) ≡ sized (old .digits)
-  lent = ap (λ (b : Bool). sized (old .digits) && b) (eq-eqb (length (old .rests)) dimension long) ∙ and-true (sized (old .digits))
+  -- every vector has its length where all but the rests have theirs
+  all-sized : sized a && (sized y1 && (sized y2 && (sized (old .digits) && sized (old .rests)))) ≡ sized a && (sized y1 && (sized y2 && sized (old .digits)))
+  all-sized =
+      ap (λ (b : Bool). sized a && (sized y1 && (sized y2 && (sized (old .digits) && b)))) (sized-yes (old .rests) long)
+      ∙ ap (λ (b : Bool). sized a && (sized y1 && (sized y2 && b))) (and-true (sized (old .digits)))
 
   either : (test : Bool) (o : Outcome) (d : List ℕ) (r : List ℤ) → digitsOf (must test (keeping old o) (withRests Done d r)) ≡ must test (filled o (old .digits)) (filled Done d)
   either true o d r = refl
@@ -38,9 +42,9 @@ module _ (a : List ℕ) (y1 y2 : List ℤ) (old : Outputs) (long : length (old .
 
   same-for : (s : Set) → digitsOf (withRestsFor s a y1 y2 old) ≡ commitmentFor s a y1 y2 (old .digits)
   same-for s =
-      let both : Outcome = tested (sized (old .digits) && sized (old .rests)) a y1 y2 in
+      let both : Outcome = tested (sized a && (sized y1 && (sized y2 && (sized (old .digits) && sized (old .rests))))) a y1 y2 in
       either (isDone both) both (committed s a y1 y2) (restsOf s a y1 y2)
-      ∙ ap (λ (b : Bool). unless (tested b a y1 y2) (λ o. filled o (old .digits)) (filled Done (committed s a y1 y2))) lent
+      ∙ ap (λ (b : Bool). unless (tested b a y1 y2) (λ o. filled o (old .digits)) (filled Done (committed s a y1 y2))) all-sized
 
   same-asked : (asked : Asked) → digitsOf (forSet asked (keeping old UnknownSet) (λ s. withRestsFor s a y1 y2 old)) ≡ forSet asked (filled UnknownSet (old .digits)) (λ s. commitmentFor s a y1 y2 (old .digits))
   same-asked (Known s) = same-for s
@@ -52,35 +56,31 @@ same-digits set a y1 y2 old long = same-asked a y1 y2 old long (askedOf set)
 
 -- ---- what the two vectors tell
 module _ (s : Set) (a : List ℕ) (y1 y2 : List ℤ) (old : Outputs) (digits : List ℕ) (rests : List ℤ) (e : withRestsFor s a y1 y2 old ≡ withRests Done digits rests) where
-  abbrev lentBoth : Bool
-  lentBoth = sized (old .digits) && sized (old .rests)
+  abbrev long : Bool
+  long = sized a && (sized y1 && (sized y2 && (sized (old .digits) && sized (old .rests))))
 
   abbrev test : Outcome
-  test = tested lentBoth a y1 y2
+  test = tested long a y1 y2
 
   abbrev u : List ℕ
   u = sums a y1 y2
 
-  only-done : {o o′ : Outcome} {x x′ : List ℕ} {y y′ : List ℤ} → withRests o x y ≡ withRests o′ x′ y′ → o ≡ o′
-  only-done q = cc
-
+  -- the tests let everything pass, and both vectors are those of the definition
   way : (isDone test ≡ true) × (withRests Done (committed s a y1 y2) (restsOf s a y1 y2) ≡ withRests Done digits rests)
   way =
       through (isDone test) (keeping old test) (withRests Done (committed s a y1 y2) (restsOf s a y1 y2)) (withRests Done digits rests)
-      (λ f g. differ (sym f ∙ ap isDone (only-done g))) e
+      (λ f g. differ (sym f ∙ ap isDone (with-rests-parts (withRests Done digits rests) g refl .0))) e
 
   digits-is : digits ≡ map (upper s) u
   unfolding committed
-  digits-is = let q = way .1 in cc
+  digits-is = with-rests-parts (withRests Done digits rests) refl (way .1) .1
 
   rests-is : rests ≡ map (rest s) u
   unfolding restsOf
-  rests-is = let q = way .1 in cc
+  rests-is = with-rests-parts (withRests Done digits rests) refl (way .1) .2
 
   u-512 : length u ≡ dimension
-  u-512 =
-      let yes : Bool = true in
-      length-sums a y1 y2 (inputs-sized lentBoth a y1 y2 {o = test} {r = yes} refl (sym (way .0)) refl .2)
+  u-512 = length-sums a y1 y2 (sized-five a y1 y2 (old .digits) (old .rests) (tested-long long a y1 y2 (way .0)) .2)
 
   at : (i : ℕ) → i < dimension → (getD digits i 0 ≡ upper s (getD u i 0)) × (getD rests i (pos 0) ≡ rest s (getD u i 0))
   at i h = (

@@ -15,23 +15,17 @@ use sets::Set;
 
 // ---- lengths
 
-// Whether two, three or four lengths are 512.
-pub fn two_sized(x: usize, y: usize) -> bool
-    ensures { λ r. ⌜ r ≡ isDimension x && isDimension y ⌝ }
-{
-    if x != Set::DIMENSION {
-        return false;
-    }
-    y == Set::DIMENSION
-}
-
+// Whether three, four or five lengths are 512.
 pub fn three_sized(x: usize, y: usize, z: usize) -> bool
     ensures { λ r. ⌜ r ≡ isDimension x && (isDimension y && isDimension z) ⌝ }
 {
     if x != Set::DIMENSION {
         return false;
     }
-    two_sized(y, z)
+    if y != Set::DIMENSION {
+        return false;
+    }
+    z == Set::DIMENSION
 }
 
 pub fn four_sized(w: usize, x: usize, y: usize, z: usize) -> bool
@@ -41,6 +35,15 @@ pub fn four_sized(w: usize, x: usize, y: usize, z: usize) -> bool
         return false;
     }
     three_sized(x, y, z)
+}
+
+pub fn five_sized(v: usize, w: usize, x: usize, y: usize, z: usize) -> bool
+    ensures { λ r. ⌜ r ≡ isDimension v && (isDimension w && (isDimension x && (isDimension y && isDimension z))) ⌝ }
+{
+    if v != Set::DIMENSION {
+        return false;
+    }
+    four_sized(w, x, y, z)
 }
 
 // ---- the form of a list
