@@ -35,8 +35,15 @@ module _ (s : Set) (y v : List ℤ) (small : (k : ℕ) → natAbs (getD y k (pos
   sum-fits k = omega (arith, small k, short k, kappa-within s)
 
   module _ (ly : length y ≡ dimension) (lv : length v ≡ dimension) (bit : Bool) where
-    pub sizes-z : sizes (zipWith (addedIf (not bit)) y v) v ≤ (maskLimit + 5 * kappaOf s) * squares v
-    sizes-z = sizes-le-times (maskLimit + 5 * kappaOf s) (zipWith (addedIf (not bit)) y v) v (λ k. addedIf-within (not bit) y v (ly ∙ sym lv) k maskLimit (5 * kappaOf s) (small k) (short k))
+    -- this half of z
+    abbrev z : List ℤ
+    z = zipWith (addedIf (not bit)) y v
+
+    pub z-within : (k : ℕ) → natAbs (getD z k (pos 0)) ≤ maskLimit + 5 * kappaOf s
+    z-within k = addedIf-within (not bit) y v (ly ∙ sym lv) k maskLimit (5 * kappaOf s) (small k) (short k)
+
+    pub sizes-z : sizes z v ≤ (maskLimit + 5 * kappaOf s) * squares v
+    sizes-z = sizes-le-times (maskLimit + 5 * kappaOf s) z v z-within
 
 -- both halves
 pub trial-fits : (s : Set) (n1 n2 q1 q2 : ℕ) → n1 ≤ (maskLimit + 5 * kappaOf s) * q1 → n2 ≤ (maskLimit + 5 * kappaOf s) * q2

@@ -80,7 +80,7 @@ module _ (s : Set) (c : Lent) (before : Admitted s c) where
   unfolding masked
   z-first = length-zipWith (addedIf (not (c .sign))) (c .y1) (v .first) (before .long-y1 ∙ sym (v-512 .first)) ∙ before .long-y1
 
-  z-second : length (z .second) ≡ dimension
+  pub z-second : length (z .second) ≡ dimension
   unfolding masked
   z-second = length-zipWith (addedIf (not (c .sign))) (c .y2) (v .second) (before .long-y2 ∙ sym (v-512 .second)) ∙ before .long-y2
 
@@ -121,13 +121,15 @@ module _ (s : Set) (c : Lent) (before : Admitted s c) where
       (choices-carries key key-512 l (proper-places s l (before .list)) (c .a) (before .key .long-a) (key-carries s (c .a) (c .f) (second (c .g)) (before .key .proper)))
       (marks l) (mark i) (length-marks l) (mark-is i h) (v-parity i h)
 
-  -- and what it restores there
+  -- z2 dagger there
+  pub dagger-at : (i : ℕ) → i < dimension → getD (daggers s u (z .second)) i (pos 0) ≡ dagger s (getD u i 0) (getD (z .second) i (pos 0))
+  unfolding daggers
+  dagger-at i h = getD-zipWith (dagger s) u (z .second) i 0 (pos 0) (pos 0) (omega (arith, u-512)) (omega (arith, z-second))
+
+  -- and what the checker restores
   restored-at : (i : ℕ) → i < dimension
       → restored s (getD (sums (c .a) (z .first) (marks l)) i 0) (getD (daggers s u (z .second)) i (pos 0)) ≡ upper s (getD u i 0)
-  unfolding daggers
-  restored-at i h =
-      ap₂ (restored s) (sum-at i h) (getD-zipWith (dagger s) u (z .second) i 0 (pos 0) (pos 0) (omega (arith, u-512)) (omega (arith, z-second)))
-      ∙ restored-dagger s (getD u i 0) (getD (z .second) i (pos 0))
+  restored-at i h = ap₂ (restored s) (sum-at i h) (dagger-at i h) ∙ restored-dagger s (getD u i 0) (getD (z .second) i (pos 0))
 
   -- what is rebuilt from z1 and z2 dagger is what was committed to
   pub rebuilt-committed : rebuilt s (c .a) (claim (z .first) (daggers s u (z .second)) l) ≡ committed s (c .a) (c .y1) (c .y2)

@@ -5,12 +5,12 @@ use mathlib.Core.List.{List}
 use Prim.Native.Nat.{ℕ, _+_, _*_, _^_, _<_, _≤_}
 use native.Mathlib.Omega.{arith}
 use lib.Dec.{lit≤}
-use lib.IntN.{ℤ, natAbs, _+ℤ_}
-use lib.ListN.{length}
+use lib.IntN.{ℤ, pos, natAbs, _+ℤ_}
+use lib.ListN.{length, getD}
 use Rattle.laws.specs.Lists.{zipWith}
 use Rattle.laws.proofs.Bounds.{abs-add}
 use Rattle.sets.specs.declared.Set.{Set}
-use Rattle.sets.specs.Numbers.{dimension, places, kappaOf, keyLimitOf}
+use Rattle.sets.specs.Numbers.{dimension, maskLimit, places, kappaOf, keyLimitOf}
 use Rattle.sets.proofs.Alike.{first-trial}
 use Rattle.answers.specs.Outcomes.{isDone}
 use Rattle.vectors.specs.Vectors.{squares, inner, sizes}
@@ -25,7 +25,7 @@ use Rattle.vectors.specs.Pairs.{Pair, pair}
 use Rattle.choices.specs.Choices.{addedIf, choices}
 use Rattle.choices.proofs.Pairs.{Sized, Within}
 use Rattle.masking.specs.Masking.{masked}
-use Rattle.masking.proofs.Numbers.{first-mask, second-mask, sizes-z, trial-fits}
+use Rattle.masking.proofs.Numbers.{first-mask, second-mask, z-within, sizes-z, trial-fits}
 use Rattle.masking.proofs.Chosen.{chosen-sized, chosen-short, chosen-within}
 use Rattle.signing.proofs.Ways.{short-key}
 use Rattle.promises.specs.Demands.{TrialsFit}
@@ -56,6 +56,10 @@ module _ (s : Set) (f g : List ℤ) (a l : List ℕ) (key : Tested s f g a) (pro
 
     abbrev z2 : List ℤ
     z2 = zipWith (addedIf (not bit)) y2 (v .second)
+
+    -- an entry of z2 is a mask's and at most 5 for each column
+    pub z2-within : (k : ℕ) → natAbs (getD z2 k (pos 0)) ≤ maskLimit + 5 * kappaOf s
+    z2-within = z-within s y2 (v .second) (second-mask y1 y2 masks) (λ k. omega (arith, small .second k)) l2 (sized .second) bit
 
     fits : sizes z1 (v .first) + sizes z2 (v .second) < 2 ^ 30
     fits =

@@ -1,10 +1,13 @@
 -- What holds of every set alike: the few laws of d, p, kappa and K that everything else is proved from.
 use mathlib.Core.Path.{_≡_, refl, ap, _∙_}
-use mathlib.Core.Bool.{cond}
+use mathlib.Core.Bool.{Bool, true, cond}
+use mathlib.Core.List.{List, [], _∷_}
 use Prim.Native.Nat.{ℕ, _+_, _*_, _-_, _/_, _^_, _<_, _≤_}
 use native.Mathlib.Omega.{arith}
 use lib.Dec.{eqb, eqb→eq, lit<, lit≤}
+use Rattle.laws.specs.Lists.{every}
 use Rattle.laws.proofs.Bounds.{cond-ind}
+use Rattle.laws.proofs.Chain.{and-left, and-right}
 use Rattle.sets.specs.declared.Set.{Set}
 use Rattle.sets.specs.declared.Set.the-variants.{I, II, III, IV}
 use Rattle.sets.specs.declared.Asked.{Asked}
@@ -17,6 +20,19 @@ each P a b c d I = a
 each P a b c d II = b
 each P a b c d III = c
 each P a b c d IV = d
+
+-- all sets
+abbrev pub all : List Set
+all = I ∷ II ∷ III ∷ IV ∷ []
+
+-- a test that the checker computes of all of them holds of each
+pub of-all : (test : Set → Bool) → every test all ≡ true → (s : Set) → test s ≡ true
+unfolding every
+of-all test e =
+    let one = and-right (test I) _ e in
+    let two = and-right (test II) _ one in
+    let three = and-right (test III) _ two in
+    each _ (and-left (test I) _ e) (and-left (test II) _ one) (and-left (test III) _ two) (and-left (test IV) _ three)
 
 pub p-is-quotient : (s : Set) → pOf s ≡ twiceModulus / 2 ^ dOf s
 p-is-quotient = each _ refl refl refl refl
