@@ -1,8 +1,10 @@
 //! The cases of a run. Case numbers below `Plan::planned()` go through every call, set and pair of
 //! faults, every header bit, every length of a record, every count of words and every step of the
-//! draw; those above are drawn at random. A case is made from the run's seed and its number alone.
+//! draw, and masks that make the dropped digits cost their figure; those above are drawn at random.
+//! A case is made from the run's seed and its number alone.
 
 use crate::buffers::{difference, Buffers, Left};
+use crate::costs::{steer, Cost};
 use crate::faults::faults_of;
 use crate::inputs::right_input;
 use crate::{library, walks};
@@ -34,14 +36,18 @@ enum Planned {
     WordCounts { set: u32 },
     /// Walks through the draw's four steps that fail at every place in turn.
     Walks { set: u32 },
+    /// A response at which the dropped digits cost the figure, up or down.
+    Figure { set: u32, up: bool },
     /// The sizes of every number from 0 to 300, and of numbers about powers of two.
     Sizes,
 }
 
-/// What a case found: the answers, for the tally, and the failures.
+/// What a case found: the answers and the costs, for the tally, and the failures.
 #[derive(Default)]
 pub struct Found {
     pub answers: Vec<(Call, u32)>,
+    /// What each response that was given out cost.
+    pub costs: Vec<Cost>,
     pub failures: Vec<String>,
     /// The case in words.
     pub story: String,
@@ -70,6 +76,7 @@ impl Plan {
             planned.push(Planned::RecordLengths { set });
             planned.extend((0..3).map(|_| Planned::WordCounts { set }));
             planned.push(Planned::Walks { set });
+            planned.extend([true, false].map(|up| Planned::Figure { set, up }));
         }
         planned.push(Planned::Sizes);
         Plan {
@@ -91,7 +98,9 @@ impl Plan {
             Planned::HeaderByte { .. } | Planned::RecordLengths { .. } => {
                 Call::ON_RECORD.contains(&call)
             }
-            Planned::WordCounts { .. } | Planned::Walks { .. } => call == Call::Respond,
+            Planned::WordCounts { .. } | Planned::Walks { .. } | Planned::Figure { .. } => {
+                call == Call::Respond
+            }
             Planned::Sizes => !call.has_number(),
         };
         let numbered = self.planned.iter().zip(0..);
@@ -169,6 +178,15 @@ impl Plan {
                     found.compare(Call::Respond, &input);
                 }
             }
+            Planned::Figure { set, up } => {
+                let way = if up { "up" } else { "down" };
+                found.story = format!("masks steered {way} to the figure, set {set}");
+                let key = keys::published(Set::asked(set).expect("a set number"), noise);
+                let mut input = right_input(set, &key, noise);
+                steer(&mut input, up, noise);
+                found.compare(Call::Respond, &input);
+                found.require_figure();
+            }
             Planned::Sizes => {
                 found.story = "sizes of sets".to_string();
                 let powers = (8..32).map(|place| 1u32 << place);
@@ -243,7 +261,29 @@ impl Found {
         } else if !call.numbers().contains(&number) {
             self.fail(call, format!("{number} is no number of the call"));
         }
+        if call == Call::Respond && (number, second.number()) == (0, 0) {
+            self.weigh(Cost::of(input, library.buffers.z2_dagger()));
+        }
         library
+    }
+
+    /// What a response cost, which is at most the figure.
+    fn weigh(&mut self, cost: Cost) {
+        if !cost.is_within_figure() {
+            self.fail(Call::Respond, format!("above the figure: {cost:?}"));
+        }
+        self.costs.push(cost);
+    }
+
+    /// The masks were steered to the figure: the one response was given out and cost it.
+    fn require_figure(&mut self) {
+        for cost in &mut self.costs {
+            cost.steered = true;
+        }
+        if !matches!(self.costs[..], [cost] if cost.is_figure()) {
+            let what = format!("steered to the figure, it costs {:?}", self.costs);
+            self.fail(Call::Respond, what);
+        }
     }
 
     fn compare_record_calls(&mut self, input: &Input) {
@@ -304,5 +344,39 @@ impl Found {
 
     fn fail(&mut self, call: Call, what: impl std::fmt::Display) {
         self.failures.push(format!("{}: {what}", call.name()));
+    }
+}
+
+#[cfg(test)]
+mod tests {
+    use super::Found;
+    use crate::costs::Cost;
+    use second::Set;
+
+    fn weighed(largest: i64) -> Found {
+        let mut found = Found::default();
+        found.weigh(Cost {
+            set: Set::III,
+            largest,
+            steered: false,
+        });
+        found
+    }
+
+    #[test]
+    fn a_response_above_the_figure_fails() {
+        assert!(weighed(513).failures.is_empty());
+        assert_eq!(weighed(514).failures.len(), 1);
+    }
+
+    #[test]
+    fn a_steered_response_below_the_figure_fails() {
+        let failures = |mut found: Found| {
+            found.require_figure();
+            found.failures.len()
+        };
+        assert_eq!(failures(weighed(513)), 0);
+        assert_eq!(failures(weighed(512)), 1);
+        assert_eq!(failures(Found::default()), 1);
     }
 }

@@ -15,15 +15,13 @@ const PASSING_WORDS: usize = 62;
 pub fn right_input(number: u32, key: &Key, noise: &mut Noise) -> Input {
     let set = Set::asked(number).expect("a set to start from");
     let list = noise.list(set);
-    // Masks below sigma / 4 stay within the length rule for any key.
-    let deviation = set.sigma() as f64 / 4.0;
     let mut input = Input {
         set: number,
         f: key.f.clone(),
         g: key.g.clone(),
         a: key.a.clone(),
-        y1: noise.mask_of_deviation(deviation),
-        y2: noise.mask_of_deviation(deviation),
+        y1: short_mask(set, noise),
+        y2: short_mask(set, noise),
         hashed: list.clone(),
         list,
         sign: noise.bit(),
@@ -40,6 +38,11 @@ pub fn right_input(number: u32, key: &Key, noise: &mut Noise) -> Input {
     };
     sign_with_sum(&mut input, set, sum, noise);
     input
+}
+
+/// A mask below sigma / 4, with which a response stays within the length rule for any key.
+pub fn short_mask(set: Set, noise: &mut Noise) -> Vec<i16> {
+    noise.mask_of_deviation(set.sigma() as f64 / 4.0)
 }
 
 /// Puts a signature of this sum, and the record of it.

@@ -3,6 +3,7 @@
 
 pub mod buffers;
 pub mod cases;
+pub mod costs;
 pub mod faults;
 pub mod inputs;
 pub mod library;

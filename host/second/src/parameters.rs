@@ -84,6 +84,11 @@ impl Set {
         1 << self.d()
     }
 
+    /// The figure of the data sheet (02, C-24): how far 2^d times z2 dagger lies from z2 at most.
+    pub fn figure(self) -> i64 {
+        self.step() + 1
+    }
+
     pub fn largest(self) -> i64 {
         match self {
             Set::I => 2100,

@@ -125,3 +125,9 @@ pub fn dropped_digits(set: Set, u: &[i64], z2: &[i64]) -> Whole {
         })
         .collect()
 }
+
+/// What the dropped digits cost at each place (02, C-24): 2^d times z2 dagger, less z2.
+pub fn costs(set: Set, z2_dagger: &[i64], z2: &[i64]) -> Whole {
+    let pairs = z2_dagger.iter().zip(z2);
+    pairs.map(|(dagger, z2)| set.step() * dagger - z2).collect()
+}

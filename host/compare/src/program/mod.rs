@@ -80,7 +80,7 @@ fn run_all(options: &Options, plan: &mut Plan) -> (u64, u64) {
             );
         }
     });
-    print(format_args!("{}", tally.table()));
+    print(format_args!("{}{}", tally.table(), tally.costs()));
     let verdict = tally.verdict();
     for number in &verdict.missing {
         say!("not reached: {number}");

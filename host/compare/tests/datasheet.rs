@@ -1,0 +1,92 @@
+//! docs/DATASHEET.md says what the library, the second program, the header, docs/CALLS.md and
+//! docs/PERFORMANCE.md say.
+
+use second::parameters::N;
+use second::Set;
+use std::fs;
+
+fn text(name: &str) -> String {
+    let path = format!("{}/../../{name}", env!("CARGO_MANIFEST_DIR"));
+    fs::read_to_string(&path).unwrap_or_else(|error| panic!("{path}: {error}"))
+}
+
+/// The cells behind the first one, in the one row that starts with it.
+fn row(text: &str, first: &str) -> Vec<String> {
+    let start = format!("| {first} |");
+    let mut rows = text.lines().filter(|line| line.starts_with(&start));
+    let found = rows.next().unwrap_or_else(|| panic!("no row '{first}'"));
+    assert_eq!(rows.next(), None, "two rows '{first}'");
+    let cells = found.trim_end_matches('|').split('|').skip(2);
+    cells.map(|cell| cell.trim().to_string()).collect()
+}
+
+/// A number of a set.
+type Number = fn(Set) -> usize;
+
+#[test]
+fn the_sets_are_those_of_the_library() {
+    let wanted: [(&str, Number); 8] = [
+        ("what the dropped digits cost, at most", |set| {
+            set.figure() as usize
+        }),
+        ("kappa, the places of a challenge list", |set| {
+            bursztok::kappa(set.number())
+        }),
+        ("d, the dropped binary digits", |set| set.d() as usize),
+        ("p, the number of steps", |set| set.p() as usize),
+        ("public key, bytes", |_| size_of::<[u16; N]>()),
+        ("secret key, bytes", |_| size_of::<[[i8; N]; 2]>()),
+        ("signature, bytes", |set| {
+            size_of::<[i16; N]>() + size_of::<[i8; N]>() + 2 * set.kappa()
+        }),
+        ("record, bytes", |set| bursztok::record_bytes(set.number())),
+    ];
+    let sheet = text("docs/DATASHEET.md");
+    for (name, number) in wanted {
+        let told = row(&sheet, name);
+        let told: Vec<String> = told.iter().map(|cell| cell.replace(',', "")).collect();
+        let numbers = Set::ALL.map(|set| number(set).to_string());
+        assert_eq!(told[..numbers.len()], numbers, "{name}");
+    }
+}
+
+#[test]
+fn the_calls_have_the_figures_of_calls_and_performance() {
+    let (sheet, calls) = (text("docs/DATASHEET.md"), text("docs/CALLS.md"));
+    let performance = text("docs/PERFORMANCE.md");
+    let counted = |name: &str| row(&performance, name)[0].clone();
+    let of_set_1 = |name: &str| format!("{} (set I)", counted(&format!("{name}, set I")));
+    let response = counted("response, set I / III / IV");
+    let wanted = [
+        ("response", format!("{response} (sets I / III / IV)")),
+        ("key test", of_set_1("key test")),
+        ("rebuild", of_set_1("rebuild")),
+        ("reader", of_set_1("record read")),
+        (
+            "commitment, with rests",
+            format!(
+                "{}, {}",
+                counted("commitment, set I"),
+                of_set_1("commitment with rests")
+            ),
+        ),
+        ("writer", of_set_1("record written")),
+        ("each other call", "not counted".to_string()),
+    ];
+    for (call, instructions) in wanted {
+        let told = row(&sheet, call);
+        let stack = calls.split("## Stack").nth(1).expect("CALLS has the stack");
+        assert_eq!(told[..3], row(stack, call)[..3], "{call}");
+        assert_eq!(told[3], instructions, "{call}");
+    }
+}
+
+#[test]
+fn the_version_is_the_headers() {
+    let header = text("include/bursztok.h");
+    let version = header
+        .lines()
+        .find_map(|line| line.strip_prefix("#define BURSZTOK_VERSION "));
+    let version = version.expect("the header has a version").trim_matches('"');
+    assert!(text("docs/DATASHEET.md").contains(&format!("\nBursztok {version}: ")));
+}
