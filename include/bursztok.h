@@ -196,7 +196,9 @@ bursztok_answer bursztok_commitment_with_rests(uint32_t set,
 
 /*
  * The response to a list: z1 and z2 dagger of the signature, for the masks that the list was
- * made from. sign is the random sign bit; it must be 0 or 1.
+ * made from. sign is the random sign bit; it must be 0 or 1. An entry of z2 stands for the z2 of
+ * the papers, with d binary digits dropped: 2^d times the entry differs from it by at most
+ * 2^d + 1, that is 1025, 1025, 513, 257 for sets 1 to 4.
  *
  * Refusals in order: 1, 2, 3, 4, 5, 7, 6, then 8 or 9 as the walk ends, then 10, 11.
  * Number 0 writes all of z1 and z2 (512 entries each). 2 covers z1 and z2 too.
