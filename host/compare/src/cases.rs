@@ -185,7 +185,7 @@ impl Plan {
                 let mut input = right_input(set, &key, noise);
                 steer(&mut input, up, noise);
                 found.compare(Call::Respond, &input);
-                found.require_figure();
+                found.require_figure(up);
             }
             Planned::Sizes => {
                 found.story = "sizes of sets".to_string();
@@ -275,12 +275,12 @@ impl Found {
         self.costs.push(cost);
     }
 
-    /// The masks were steered to the figure: the one response was given out and cost it.
-    fn require_figure(&mut self) {
+    /// The masks were steered up or down to the figure: the one response was given out and cost it.
+    fn require_figure(&mut self, up: bool) {
         for cost in &mut self.costs {
             cost.steered = true;
         }
-        if !matches!(self.costs[..], [cost] if cost.is_figure()) {
+        if !matches!(self.costs[..], [cost] if cost.reaches(up)) {
             let what = format!("steered to the figure, it costs {:?}", self.costs);
             self.fail(Call::Respond, what);
         }
@@ -353,11 +353,12 @@ mod tests {
     use crate::costs::Cost;
     use second::Set;
 
-    fn weighed(largest: i64) -> Found {
+    fn weighed(lowest: i64, highest: i64) -> Found {
         let mut found = Found::default();
         found.weigh(Cost {
             set: Set::III,
-            largest,
+            lowest,
+            highest,
             steered: false,
         });
         found
@@ -365,18 +366,24 @@ mod tests {
 
     #[test]
     fn a_response_above_the_figure_fails() {
-        assert!(weighed(513).failures.is_empty());
-        assert_eq!(weighed(514).failures.len(), 1);
+        assert!(weighed(-513, 513).failures.is_empty());
+        assert_eq!(weighed(-500, 514).failures.len(), 1);
+        assert_eq!(weighed(-514, 500).failures.len(), 1);
     }
 
     #[test]
     fn a_steered_response_below_the_figure_fails() {
-        let failures = |mut found: Found| {
-            found.require_figure();
+        let failures = |mut found: Found, up: bool| {
+            found.require_figure(up);
             found.failures.len()
         };
-        assert_eq!(failures(weighed(513)), 0);
-        assert_eq!(failures(weighed(512)), 1);
-        assert_eq!(failures(Found::default()), 1);
+        for (up, reached, other) in [
+            (true, (-500, 513), (-513, 512)),
+            (false, (-513, 500), (-512, 513)),
+        ] {
+            assert_eq!(failures(weighed(reached.0, reached.1), up), 0);
+            assert_eq!(failures(weighed(other.0, other.1), up), 1);
+            assert_eq!(failures(Found::default(), up), 1);
+        }
     }
 }

@@ -15,8 +15,10 @@ use second::Set;
 #[derive(Clone, Copy, Debug, PartialEq, Eq)]
 pub struct Cost {
     pub set: Set,
-    /// The largest difference at any place, either way.
-    pub largest: i64,
+    /// 2^d times z2 dagger less z2, where that is least.
+    pub lowest: i64,
+    /// The same where it is largest.
+    pub highest: i64,
     /// Whether the masks were steered to the figure.
     pub steered: bool,
 }
@@ -29,17 +31,23 @@ impl Cost {
         let costs = costs(set, &whole(z2_dagger), &z2);
         Cost {
             set,
-            largest: costs.into_iter().map(i64::abs).max().unwrap_or(0),
+            lowest: costs.iter().copied().min().expect("512 places"),
+            highest: costs.iter().copied().max().expect("512 places"),
             steered: false,
         }
     }
 
     pub fn is_within_figure(&self) -> bool {
-        self.largest <= self.set.figure()
+        let figure = self.set.figure();
+        -figure <= self.lowest && self.highest <= figure
     }
 
-    pub fn is_figure(&self) -> bool {
-        self.largest == self.set.figure()
+    /// Whether it reaches the figure, up or down.
+    pub fn reaches(&self, up: bool) -> bool {
+        match up {
+            true => self.highest == self.set.figure(),
+            false => self.lowest == -self.set.figure(),
+        }
     }
 }
 
@@ -106,13 +114,15 @@ mod tests {
         for set in Set::ALL {
             for up in [true, false] {
                 let (input, z2_dagger, cost) = responded(set, Some(up), &mut noise);
-                assert!(cost.is_figure() && cost.is_within_figure(), "{cost:?}");
+                assert!(cost.reaches(up) && cost.is_within_figure(), "{cost:?}");
+                assert!(!cost.reaches(!up), "{cost:?}");
                 // With the other sign bit z2 is another, and the cost with it.
                 let sign = !input.sign;
                 assert_ne!(Cost::of(&Input { sign, ..input }, &z2_dagger), cost);
             }
             let (_, _, cost) = responded(set, None, &mut noise);
-            assert!(cost.largest > 0 && cost.is_within_figure(), "{cost:?}");
+            assert!(cost.lowest < 0 && cost.highest > 0, "{cost:?}");
+            assert!(cost.is_within_figure(), "{cost:?}");
         }
     }
 

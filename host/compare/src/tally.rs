@@ -13,10 +13,18 @@ pub struct Tally {
     wrong: u64,
     failing_cases: u64,
     counts: BTreeMap<(Call, u32), u64>,
-    /// By the number of a set: the responses that were given out, and the largest cost of one.
-    costs: BTreeMap<u32, (u64, i64)>,
+    /// What the responses cost that were given out, by the number of their set.
+    costs: BTreeMap<u32, Seen>,
     /// The same where the masks were steered to the figure.
-    steered: BTreeMap<u32, (u64, i64)>,
+    steered: BTreeMap<u32, Seen>,
+}
+
+/// Responses of one set, and how far down and up they cost.
+#[derive(Clone, Copy, Default)]
+struct Seen {
+    responses: u64,
+    lowest: i64,
+    highest: i64,
 }
 
 /// What a run comes to.
@@ -41,9 +49,10 @@ impl Tally {
                 true => &mut self.steered,
                 false => &mut self.costs,
             };
-            let (responses, largest) = costs.entry(cost.set.number()).or_default();
-            *responses += 1;
-            *largest = cost.largest.max(*largest);
+            let seen = costs.entry(cost.set.number()).or_default();
+            seen.responses += 1;
+            seen.lowest = cost.lowest.min(seen.lowest);
+            seen.highest = cost.highest.max(seen.highest);
         }
         let wrong = found.failures.len() as u64;
         self.wrong += wrong;
@@ -64,7 +73,7 @@ impl Tally {
     }
 
     /// The verdict on a whole run. A number that a call never gave leaves its refusal untested, and
-    /// a figure that no response reached may be too large: that fails the run.
+    /// a figure that no response reached, up and down, may be too large: that fails the run.
     pub fn verdict(&self) -> Verdict {
         let mut missing = Vec::new();
         for call in Call::ALL {
@@ -75,8 +84,8 @@ impl Tally {
             }
         }
         for set in Set::ALL {
-            let reached = self.steered.get(&set.number());
-            if reached.is_none_or(|&(_, largest)| largest < set.figure()) {
+            let seen = self.steered.get(&set.number()).copied().unwrap_or_default();
+            if seen.lowest > -set.figure() || seen.highest < set.figure() {
                 missing.push(format!("response, figure of set {}", set.number()));
             }
         }
@@ -87,20 +96,21 @@ impl Tally {
         }
     }
 
-    /// What responses cost at most, a line a set, beside the figure (02, C-24).
+    /// What responses cost, a line a set, beside the figure (02, C-24).
     pub fn costs(&self) -> String {
-        let most = |costs: &BTreeMap<u32, (u64, i64)>, set: Set| {
-            let (responses, largest) = costs.get(&set.number()).copied().unwrap_or_default();
-            format!("{largest} ({responses} responses)")
+        let range = |costs: &BTreeMap<u32, Seen>, set: Set| {
+            let seen = costs.get(&set.number()).copied().unwrap_or_default();
+            let (lowest, highest) = (seen.lowest, seen.highest);
+            format!("{lowest} .. {highest} ({} responses)", seen.responses)
         };
-        let mut lines = String::from("2^d times z2 dagger differs from z2 by at most:\n");
+        let mut lines = String::from("2^d times z2 dagger, less z2:\n");
         for set in Set::ALL {
             lines += &format!(
                 "  set {}, figure {}: random masks {}, masks steered to it {}\n",
                 set.number(),
                 set.figure(),
-                most(&self.costs, set),
-                most(&self.steered, set)
+                range(&self.costs, set),
+                range(&self.steered, set)
             );
         }
         lines
@@ -130,11 +140,12 @@ mod tests {
     use second::testing::calls::Call;
     use second::Set;
 
-    fn cost(set: Set, largest: i64, steered: bool) -> Found {
+    fn cost(set: Set, (lowest, highest): (i64, i64), steered: bool) -> Found {
         Found {
             costs: vec![Cost {
                 set,
-                largest,
+                lowest,
+                highest,
                 steered,
             }],
             ..Found::default()
@@ -146,7 +157,7 @@ mod tests {
     fn without(left_out: Option<(Call, u32)>) -> Tally {
         let mut tally = Tally::default();
         for set in Set::ALL {
-            tally.add(&cost(set, set.figure(), true));
+            tally.add(&cost(set, (-set.figure(), set.figure()), true));
         }
         for call in Call::ALL {
             let numbers = call.numbers().iter().map(|&number| (call, number));
@@ -171,32 +182,33 @@ mod tests {
     }
 
     #[test]
-    fn the_largest_cost_is_told_for_each_set() {
+    fn the_costs_are_told_for_each_set() {
         let mut tally = Tally::default();
-        for (largest, steered) in [(400, false), (511, false), (513, true), (17, false)] {
-            tally.add(&cost(Set::III, largest, steered));
+        for range in [(-400, 17), (-3, 511), (-511, 500)] {
+            tally.add(&cost(Set::III, range, false));
         }
+        tally.add(&cost(Set::III, (-80, 513), true));
+        tally.add(&cost(Set::III, (-513, 90), true));
         let told = tally.costs();
         let line = told.lines().find(|line| line.starts_with("  set 3, "));
-        let wanted = "  set 3, figure 513: random masks 511 (3 responses), masks steered to it \
-                      513 (1 responses)";
+        let wanted = "  set 3, figure 513: random masks -511 .. 511 (3 responses), masks steered \
+                      to it -513 .. 513 (2 responses)";
         assert_eq!(line, Some(wanted));
         assert_eq!(told.lines().count(), 1 + Set::ALL.len());
     }
 
     #[test]
     fn a_figure_that_is_never_reached_fails_the_run() {
-        let mut tally = without(None);
-        tally.steered.clear();
-        for set in [Set::I, Set::II, Set::IV] {
-            tally.add(&cost(set, set.figure(), true));
+        for short in [(-512, 513), (-513, 512), (0, 0)] {
+            let mut tally = without(None);
+            tally.steered.remove(&Set::III.number());
+            tally.add(&cost(Set::III, short, true));
+            // One of random masks does not count.
+            tally.add(&cost(Set::III, (-513, 513), false));
+            let verdict = tally.verdict();
+            assert_eq!(verdict.missing, ["response, figure of set 3"]);
+            assert_eq!(verdict.failed, 1);
         }
-        // Neither a steered response below it nor one of random masks counts.
-        tally.add(&cost(Set::III, 512, true));
-        tally.add(&cost(Set::III, 513, false));
-        let verdict = tally.verdict();
-        assert_eq!(verdict.missing, ["response, figure of set 3"]);
-        assert_eq!(verdict.failed, 1);
     }
 
     #[test]

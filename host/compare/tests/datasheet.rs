@@ -1,5 +1,5 @@
-//! docs/DATASHEET.md says what the library, the second program, the header, docs/CALLS.md and
-//! docs/PERFORMANCE.md say.
+//! The tables of docs/DATASHEET.md say what the library, the second program, docs/CALLS.md and
+//! docs/PERFORMANCE.md say; its version and the header's figures are the same.
 
 use second::parameters::N;
 use second::Set;
@@ -89,4 +89,14 @@ fn the_version_is_the_headers() {
         .find_map(|line| line.strip_prefix("#define BURSZTOK_VERSION "));
     let version = version.expect("the header has a version").trim_matches('"');
     assert!(text("docs/DATASHEET.md").contains(&format!("\nBursztok {version}: ")));
+}
+
+#[test]
+fn the_header_tells_the_figures() {
+    let figures = Set::ALL.map(|set| set.figure().to_string()).join(", ");
+    let said = format!(
+        "2^d + 1, that is {figures} for sets 1 to {}.",
+        Set::ALL.len()
+    );
+    assert!(text("include/bursztok.h").contains(&said), "{said}");
 }

@@ -87,9 +87,6 @@ fn no_signature_costs_more_than_the_figure() {
             let z2 = shifted(&whole(&last_try.y2), &v2, last_try.sign);
             let costs = costs(set, &whole(&signed.signature.z2_dagger), &z2);
             assert!(costs.iter().all(|cost| cost.abs() <= set.figure()));
-            // The other sign bit's z2 is another one.
-            let other = shifted(&whole(&last_try.y2), &v2, !last_try.sign);
-            assert_ne!(z2, other);
         }
     }
 }
