@@ -39,7 +39,7 @@
  *     4   mask coefficient outside -4096 .. 4096
  *     5   list not of the stated form, its count included
  *     6   key relation does not hold
- *     7   key longer than K
+ *     7   key longer than K: can't occur, since no key with the right counts (15) is
  *     8   rejected by the draw
  *     9   the walk needs a word and none is left
  *    10   entry beyond "largest", with the first place: z1 is 0 .. 511, z2 dagger 512 .. 1023.
@@ -49,21 +49,24 @@
  *    13   header malformed, with the first byte of the first wrong field; shorter than 24 bytes,
  *         its length
  *    14   writer's output shorter than the total
+ *    15   counts wrong: f or g has not exactly the set's number of coefficients of 1 or -1 and of
+ *         2 or -2 (see SETS)
  *
  * SETS
  *
  *   On calls `set` is 1 to 4 for BLISS-B I to IV; 0 stands for set 1. bursztok_kappa and
- *   bursztok_record_bytes tell kappa and the bytes of a record, for callers that hold no table.
+ *   bursztok_record_bytes tell kappa and the bytes of a record, for callers that hold no table. f
+ *   and g each have d1 coefficients of 1 or -1 and d2 of 2 or -2, the rest zero.
  *
- *    set  kappa   d   p  largest   B2 squared     K  record bytes
- *     1     23   10  24     2100  165,688,384   775          1606
- *     2     23   10  24     1563  122,633,476   775          1606
- *     3     30    9  48     1760  104,162,436  1409          1620
- *     4     39    8  96     1613   98,029,801  1784          1638
+ *    set  kappa   d   p  largest   B2 squared     K   d1  d2  record bytes
+ *     1     23   10  24     2100  165,688,384   775  154   0          1606
+ *     2     23   10  24     1563  122,633,476   775  154   0          1606
+ *     3     30    9  48     1760  104,162,436  1409  216  16          1620
+ *     4     39    8  96     1613   98,029,801  1784  231  31          1638
  *
  * VECTORS
  *
- *   f, g        secret key, 512 coefficients -2 .. 2
+ *   f, g        secret key, 512 coefficients -2 .. 2, with the set's counts
  *   a           public key, 512 coefficients 0 .. 12288; a times f = 2g + 1 modulo 12289
  *   y1, y2      masks, 512 coefficients -4096 .. 4096, new for every try
  *   list        the challenge: exactly kappa places, strictly rising, each below 512
@@ -91,7 +94,7 @@ extern "C" {
 #endif
 
 /* The version of this header and of the library that it belongs to. */
-#define BURSZTOK_VERSION "0.2.0"
+#define BURSZTOK_VERSION "0.3.0"
 
 /* The length of every vector. */
 #define BURSZTOK_VECTOR 512
@@ -129,15 +132,16 @@ enum bursztok_number {
     BURSZTOK_SUM = 11,
     BURSZTOK_LISTS_DIFFER = 12,
     BURSZTOK_HEADER = 13,
-    BURSZTOK_OUTPUT_SHORT = 14
+    BURSZTOK_OUTPUT_SHORT = 14,
+    BURSZTOK_KEY_COUNTS = 15
 };
 
 typedef struct {
     uint32_t number, place;
 } bursztok_answer;
 
-/* `words` is the count of words that the draw took: 0 for refusals before the draw (1 to 7), the
- * number of words lent with 9, and with 8 the failing word is counted. */
+/* `words` is the count of words that the draw took: 0 for refusals before the draw (1 to 7 and 15),
+ * the number of words lent with 9, and with 8 the failing word is counted. */
 typedef struct {
     uint32_t number, place;
     uint64_t words;
@@ -154,10 +158,10 @@ typedef struct {
 } bursztok_part;
 
 /*
- * The key test: f, g and a are in range, the squared length of (f, 2g + 1) is at most K, and
- * a times f = 2g + 1 modulo 12289.
+ * The key test: f, g and a are in range, f and g have the counts of the set, the squared length of
+ * (f, 2g + 1) is at most K, and a times f = 2g + 1 modulo 12289.
  *
- * Refusals in order: 1, 2, 3, 7, 6. Writes nothing.
+ * Refusals in order: 1, 2, 3, 15, 7, 6. Writes nothing.
  */
 bursztok_answer bursztok_key_test(uint32_t set,
                                   const int8_t *f, size_t f_len,
@@ -200,7 +204,7 @@ bursztok_answer bursztok_commitment_with_rests(uint32_t set,
  * the papers, with d binary digits dropped: 2^d times the entry differs from it by at most
  * 2^d + 1, that is 1025, 1025, 513, 257 for sets 1 to 4.
  *
- * Refusals in order: 1, 2, 3, 4, 5, 7, 6, then 8 or 9 as the walk ends, then 10, 11.
+ * Refusals in order: 1, 2, 3, 4, 5, 15, 7, 6, then 8 or 9 as the walk ends, then 10, 11.
  * Number 0 writes all of z1 and z2 (512 entries each). 2 covers z1 and z2 too.
  * With 8, 10 and 11 the try is spent: new masks, a new list, new words. With 9 lend more words.
  */

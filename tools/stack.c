@@ -19,7 +19,7 @@
 
 static unsigned char region[REGION] __attribute__((aligned(64)));
 
-/* ---- good input: f = 1, g = 0 and a = 1, masks of some size, the first kappa places */
+/* ---- good input: a key of the set's counts, masks of some size, the first kappa places */
 
 static uint32_t set;
 static int8_t f[BURSZTOK_VECTOR], g[BURSZTOK_VECTOR], z2[BURSZTOK_VECTOR];
@@ -36,10 +36,54 @@ static size_t record_len;
 /* What the last call answered. */
 static uint32_t number, place;
 
+static uint32_t power(uint32_t base, uint32_t exponent)
+{
+    uint32_t result = 1;
+
+    for (; exponent > 0; exponent--) {
+        result = result * base % 12289;
+    }
+    return result;
+}
+
+/* factor f + term at x, modulo 12289. */
+static uint32_t value(uint32_t factor, uint32_t term, uint32_t x)
+{
+    uint32_t sum = 0;
+
+    for (int i = BURSZTOK_VECTOR - 1; i >= 0; i--) {
+        sum = (sum * x + factor * (uint32_t)f[i]) % 12289;
+    }
+    return (sum + term) % 12289;
+}
+
+/* A key with f = g, coefficients of 1 and then of 2, as many as the set has: a = (2f + 1) / f,
+ * divided at the 512 roots of x^512 + 1 modulo 12289, the odd powers of 49. */
+static void make_key(void)
+{
+    static const int ones[SETS] = {154, 154, 216, 231}, twos[SETS] = {0, 0, 16, 31};
+    uint32_t quotient[BURSZTOK_VECTOR];
+
+    for (int i = 0; i < BURSZTOK_VECTOR; i++) {
+        int end = ones[set - 1] + twos[set - 1];
+        f[i] = (int8_t)(i < ones[set - 1] ? 1 : i < end ? 2 : 0);
+        g[i] = f[i];
+    }
+    for (uint32_t k = 0; k < BURSZTOK_VECTOR; k++) {
+        uint32_t root = power(49, 2 * k + 1);
+        quotient[k] = value(2, 1, root) * power(value(1, 0, root), 12287) % 12289;
+    }
+    for (uint32_t i = 0; i < BURSZTOK_VECTOR; i++) {
+        uint32_t step = power(49, 2 * (1024 - i)), x = power(49, 1024 - i), sum = 0;
+        for (uint32_t k = 0; k < BURSZTOK_VECTOR; k++, x = x * step % 12289) {
+            sum = (sum + quotient[k] * x) % 12289;
+        }
+        a[i] = (uint16_t)(sum * power(BURSZTOK_VECTOR, 12287) % 12289);
+    }
+}
+
 static void make_input(void)
 {
-    f[0] = 1;
-    a[0] = 1;
     for (int i = 0; i < BURSZTOK_VECTOR; i++) {
         y1[i] = (int16_t)(i % 300 - 150);
         y2[i] = (int16_t)(i % 200 - 100);
@@ -211,6 +255,7 @@ int main(void)
 
     make_input();
     for (set = 1; set <= SETS; set++) {
+        make_key();
         for (size_t i = 0; i < calls; i++) {
             rows[i].call();
             most[i][set - 1] = taken(rows[i].call);

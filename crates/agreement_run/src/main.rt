@@ -12,13 +12,14 @@ use sets::Asked;
 use sets::Set;
 use signing::Response;
 
-// What is lent: a set and the set whose list it is, kappa places from 0 on; f = 1, g and a at place 5 beside a = 1 at place 0; every coefficient of each mask; the
-// sign bit; every threshold; the count of words, all 0.
+// What is lent: a set and the set whose list it is, kappa places from 0 on; a key of that set's counts, f turned at odd places, g too where `turned` says so, and
+// a = (2g + 1) / f, so much more at place 5; every coefficient of each mask; the sign bit; every threshold; the count of words, all 0.
 struct Case {
     set: u32,
     list_of: u32,
-    g5: i8,
-    a5: u16,
+    key_of: u32,
+    turned: bool,
+    more: u16,
     y1: i16,
     y2: i16,
     sign: bool,
@@ -28,14 +29,14 @@ struct Case {
 
 fn main() {
     every_set();
-    reference_points();
+    draws();
     signs();
-    keys();
+    other_keys();
     refusals();
     too_long();
     changed(
-        b"set 1, masks 301 and -200, changed after it was sent\n",
-        masked(1, 301, -200),
+        b"set 1, masks 101 and -50, changed after it was sent\n",
+        masked(1, 101, -50),
     );
     changed(
         b"set 4, masks -123 and -222, changed after it was sent\n",
@@ -45,15 +46,15 @@ fn main() {
 
 // ---- the cases
 
-// f = 1, g = 0, a = 1, sign bit 0, thresholds 1, words enough.
+// A key of the set, sign bit 0, thresholds 1, words enough.
 fn masked(set: u32, y1: i16, y2: i16) -> Case {
-    keyed(set, 0, 0, y1, y2, false)
+    keyed(set, set, false, y1, y2, false)
 }
 
 fn every_set() {
     print(b"of each set a signature is given out and accepted\n");
     run(b"set 1, masks 300 and -200", masked(1, 300, -200));
-    run(b"set 2, masks 250 and 250", masked(2, 250, 250));
+    run(b"set 2, masks 150 and 100", masked(2, 150, 100));
     run(b"set 3, masks 100 and -120", masked(3, 100, -120));
     run(b"set 4, masks -123 and -222", masked(4, -123, -222));
     run(
@@ -62,10 +63,10 @@ fn every_set() {
     );
 }
 
-fn reference_points() {
-    print(b"the reference point of 01: set 1, f = 1, g = 0, a = 1, masks zero, list 0 .. 22\n");
-    run(b"thresholds 1, twelve words", drawn(1, 12));
-    run(b"thresholds 1, eleven words", drawn(1, 11));
+fn draws() {
+    print(b"set 1, masks zero\n");
+    run(b"thresholds 1, ninety words", drawn(1, 90));
+    run(b"thresholds 1, five words", drawn(1, 5));
     run(b"thresholds 0, one word", drawn(0, 1));
     run(b"thresholds 1, no words", drawn(1, 0));
 }
@@ -74,8 +75,9 @@ fn drawn(threshold: u64, words: usize) -> Case {
     Case {
         set: 1,
         list_of: 1,
-        g5: 0,
-        a5: 0,
+        key_of: 1,
+        turned: false,
+        more: 0,
         y1: 0,
         y2: 0,
         sign: false,
@@ -88,21 +90,25 @@ fn signs() {
     print(b"sign bit 1\n");
     run(
         b"set 1, masks 300 and -200",
-        keyed(1, 0, 0, 300, -200, true),
+        keyed(1, 1, false, 300, -200, true),
     );
-    run(b"set 2, masks 250 and 250", keyed(2, 0, 0, 250, 250, true));
+    run(
+        b"set 2, masks 150 and 100",
+        keyed(2, 2, false, 150, 100, true),
+    );
     run(
         b"set 4, masks -123 and -222",
-        keyed(4, 0, 0, -123, -222, true),
+        keyed(4, 4, false, -123, -222, true),
     );
 }
 
-fn keyed(set: u32, g5: i8, a5: u16, y1: i16, y2: i16, sign: bool) -> Case {
+fn keyed(set: u32, key_of: u32, turned: bool, y1: i16, y2: i16, sign: bool) -> Case {
     Case {
         set,
         list_of: set,
-        g5,
-        a5,
+        key_of,
+        turned,
+        more: 0,
         y1,
         y2,
         sign,
@@ -111,35 +117,36 @@ fn keyed(set: u32, g5: i8, a5: u16, y1: i16, y2: i16, sign: bool) -> Case {
     }
 }
 
-// a = 2g + 1, which has 2 or -4 modulo 12289 at place 5.
-fn keys() {
-    print(b"other keys\n");
+fn other_keys() {
+    print(b"g turned at odd places, as f is\n");
     run(
-        b"set 1, g = 1 at place 5, masks 150 and 75",
-        keyed(1, 1, 2, 150, 75, false),
+        b"set 1, masks 150 and 75",
+        keyed(1, 1, true, 150, 75, false),
     );
     run(
-        b"set 1, g = -2 at place 5, sign bit 1, masks 150 and -75",
-        keyed(1, -2, 12285, 150, -75, true),
+        b"set 1, a key of set 2, sign bit 1, masks 150 and -75",
+        keyed(1, 2, true, 150, -75, true),
     );
     run(
-        b"set 3, g = 1 at place 5, sign bit 1, masks -31 and 64",
-        keyed(3, 1, 2, -31, 64, true),
+        b"set 3, sign bit 1, masks -31 and 64",
+        keyed(3, 3, true, -31, 64, true),
     );
-    run(
-        b"set 4, g = -2 at place 5, masks 17 and 5",
-        keyed(4, -2, 12285, 17, 5, false),
-    );
+    run(b"set 4, masks 17 and 5", keyed(4, 4, true, 17, 5, false));
 }
 
 fn refusals() {
     print(b"no signature is given out\n");
     run(b"set 5", masked(5, 0, 0));
-    run(b"set 1, the list of set 3", listed(1, 3));
+    run(b"set 1, the list of set 3", related(3, 0));
     run(
-        b"set 1, g = 1 and a = 3 at place 5: no key",
-        keyed(1, 1, 3, 0, 0, false),
+        b"set 1, a key of set 3: counts wrong",
+        keyed(1, 3, false, 0, 0, false),
     );
+    run(
+        b"set 4, a key of set 1: counts wrong",
+        keyed(4, 1, false, 0, 0, false),
+    );
+    run(b"set 1, a one more at place 5: no key", related(1, 1));
     run(b"set 1, masks 4097 and 0", masked(1, 4097, 0));
 }
 
@@ -153,17 +160,19 @@ fn too_long() {
         masked(1, 0, -4096),
     );
     run(
-        b"set 3, masks 119 and -177: the sum of squares",
-        masked(3, 119, -177),
+        b"set 3, masks 119 and -480: the sum of squares",
+        masked(3, 119, -480),
     );
 }
 
-fn listed(set: u32, list_of: u32) -> Case {
+// Set 1, with the list of another set, and a so much more at place 5.
+fn related(list_of: u32, more: u16) -> Case {
     Case {
-        set,
+        set: 1,
         list_of,
-        g5: 0,
-        a5: 0,
+        key_of: 1,
+        turned: false,
+        more,
         y1: 0,
         y2: 0,
         sign: false,
@@ -192,13 +201,10 @@ fn run(text: &[u8], c: Case) {
 }
 
 fn sent(c: Case, rec: &mut [u8], committed: &mut [u16]) -> Response {
-    let mut f = [0i8; Set::DIMENSION];
-    let mut g = [0i8; Set::DIMENSION];
-    let g5 = c.g5;
+    let f = first(c);
+    let g = second(c);
     let mask1 = c.y1;
     let mask2 = c.y2;
-    f[0] = 1;
-    g[5] = g5;
     let a = public_key(c);
     let y1 = [mask1; Set::DIMENSION];
     let y2 = [mask2; Set::DIMENSION];
@@ -221,13 +227,34 @@ fn sent(c: Case, rec: &mut [u8], committed: &mut [u16]) -> Response {
     )
 }
 
+fn first(c: Case) -> [i8; Set::DIMENSION]
+    ensures { λ r. ⌜ length r ≡ dimension ⌝ }
+{
+    test_keys::polynomial(test_keys::shape_of(set_of(c.key_of), true))
+}
+
+fn second(c: Case) -> [i8; Set::DIMENSION]
+    ensures { λ r. ⌜ length r ≡ dimension ⌝ }
+{
+    test_keys::polynomial(test_keys::shape_of(set_of(c.key_of), c.turned))
+}
+
 fn public_key(c: Case) -> [u16; Set::DIMENSION]
     ensures { λ r. ⌜ length r ≡ dimension ⌝ }
 {
-    let mut a = [0u16; Set::DIMENSION];
-    a[5] = c.a5;
-    a[0] = 1;
+    let f = first(c);
+    let g = second(c);
+    let mut a = test_keys::public_key(&f, &g);
+    a[5] = std::num::wrapping_add_u16(a[5], c.more);
     a
+}
+
+// The set that a number stands for, and set 1 where there is none.
+fn set_of(set: u32) -> Set {
+    match Set::asked(set) {
+        Asked::Unknown => Set::I,
+        Asked::Known(s) => s,
+    }
 }
 
 // Of the set that a number stands for, and 0 where there is none.

@@ -10,7 +10,7 @@ use Rattle.sets.specs.declared.Set.{Set}
 use Rattle.sets.specs.declared.Asked.{Asked}
 use Rattle.sets.specs.declared.Asked.the-variants.{Known, Unknown}
 use Rattle.answers.specs.declared.Outcome.{Outcome}
-use Rattle.answers.specs.declared.Outcome.the-variants.{Done, UnknownSet, WrongLength, CoefficientOutside, MaskOutside, ImproperList, RelationBroken, KeyTooLong, DrawRejected, WordMissing, EntryBeyond, SumAbove, ListsDiffer, HeaderMalformed, OutputShort}
+use Rattle.answers.specs.declared.Outcome.the-variants.{Done, UnknownSet, WrongLength, CoefficientOutside, MaskOutside, ImproperList, RelationBroken, KeyTooLong, DrawRejected, WordMissing, EntryBeyond, SumAbove, ListsDiffer, HeaderMalformed, OutputShort, CountsWrong}
 use Rattle.answers.specs.Outcomes.{numberOf, isDone, unless, forSet, filled}
 
 module _ {ℓ} {A : Type ℓ} where
@@ -47,6 +47,7 @@ done-is SumAbove e = absurd (Chain.differ e)
 done-is ListsDiffer e = absurd (Chain.differ e)
 done-is (HeaderMalformed place) e = absurd (Chain.differ e)
 done-is OutputShort e = absurd (Chain.differ e)
+done-is CountsWrong e = absurd (Chain.differ e)
 
 -- the number 0 is that of Done alone
 pub zero-is : (o : Outcome) → numberOf o ≡ 0 → o ≡ Done

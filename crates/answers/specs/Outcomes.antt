@@ -8,7 +8,7 @@ use Rattle.sets.specs.declared.Set.{Set}
 use Rattle.sets.specs.declared.Asked.{Asked}
 use Rattle.sets.specs.declared.Asked.the-variants.{Known, Unknown}
 use Rattle.answers.specs.declared.Outcome.{Outcome}
-use Rattle.answers.specs.declared.Outcome.the-variants.{Done, UnknownSet, WrongLength, CoefficientOutside, MaskOutside, ImproperList, RelationBroken, KeyTooLong, DrawRejected, WordMissing, EntryBeyond, SumAbove, ListsDiffer, HeaderMalformed, OutputShort}
+use Rattle.answers.specs.declared.Outcome.the-variants.{Done, UnknownSet, WrongLength, CoefficientOutside, MaskOutside, ImproperList, RelationBroken, KeyTooLong, DrawRejected, WordMissing, EntryBeyond, SumAbove, ListsDiffer, HeaderMalformed, OutputShort, CountsWrong}
 
 -- No.
 abbrev pub numberOf : Outcome → ℕ
@@ -27,6 +27,7 @@ numberOf SumAbove = 11
 numberOf ListsDiffer = 12
 numberOf (HeaderMalformed place) = 13
 numberOf OutputShort = 14
+numberOf CountsWrong = 15
 
 -- places are 0 except with 10 and 13
 abbrev pub placeOf : Outcome → ℕ
@@ -45,6 +46,7 @@ placeOf SumAbove = 0
 placeOf ListsDiffer = 0
 placeOf (HeaderMalformed place) = place
 placeOf OutputShort = 0
+placeOf CountsWrong = 0
 
 abbrev pub isDone : Outcome → Bool
 isDone o = eqb (numberOf o) 0

@@ -1,4 +1,4 @@
-// The answers of all calls, with the paper's number and place for each (01, "Numbers that come back").
+// The answers of all calls, with the paper's number and place for each (01, "Numbers that come back"; 15 is of 02, C-12).
 pub mod sizes;
 
 ghost use mathlib.Core.Path.{_≡_};
@@ -20,6 +20,7 @@ pub enum Outcome {
     ListsDiffer,
     HeaderMalformed(u32),
     OutputShort,
+    CountsWrong,
 }
 
 impl Outcome {
@@ -42,6 +43,7 @@ impl Outcome {
             Outcome::ListsDiffer => 12,
             Outcome::HeaderMalformed(_) => 13,
             Outcome::OutputShort => 14,
+            Outcome::CountsWrong => 15,
         }
     }
 
@@ -64,6 +66,7 @@ impl Outcome {
             Outcome::SumAbove => 0,
             Outcome::ListsDiffer => 0,
             Outcome::OutputShort => 0,
+            Outcome::CountsWrong => 0,
         }
     }
 

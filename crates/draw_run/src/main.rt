@@ -1,5 +1,5 @@
-// The walk on the reference points of 01, and on rows of words that lead through each of its steps. A line for each case: the numbers of the first trial and
-// of the others, the thresholds, the words lent, and then how the walk ended and the count of words taken.
+// The walk on rows of words that lead through each of its steps. A line for each case: the numbers of the first trial and of the others, the thresholds, the
+// words lent, and then how the walk ended and the count of words taken. 01's reference point is in response_points, where its numbers are computed.
 use draw::Ending;
 use libc::STDOUT_FILENO;
 use sets::Set;
@@ -8,20 +8,9 @@ ghost use lib.ListN.{length};
 ghost use Rattle.sets.specs.Numbers.{places};
 
 fn main() {
-    reference_points();
     rounds();
     binary_places();
     every_count();
-}
-
-// Set 1, f = 1, g = 0, a = 1, masks zero, list 0 .. 22: 17,779 has 8 set places, and 92 has 4.
-fn reference_points() {
-    let zeros = [0u64; 12];
-    level(17779, 92, 1, &zeros);
-    level(17779, 92, 1, &zeros[..11]);
-    level(17779, 92, 0, &zeros[..1]);
-    level(17779, 92, 1, &zeros[..0]);
-    level(17779, 92, 0, &zeros[..0]);
 }
 
 // No word for the first trial, and one for each other: 0 passes, and any other word fails.

@@ -1,4 +1,4 @@
-// The key test (01, "Key"). What the response asks of a key is public too: it prepares the same vectors.
+// The key test (01, "Key"; 02, C-12). What the response asks of a key is public too: it prepares the same vectors.
 ghost use mathlib.Core.Path.{_≡_};
 ghost use mathlib.Core.Bool.{true};
 ghost use mathlib.Core.List.{map};
@@ -12,12 +12,12 @@ ghost use Rattle.sets.specs.Numbers.{dimension, modulus};
 ghost use Rattle.answers.specs.declared.Outcome.the-variants.{CoefficientOutside};
 ghost use Rattle.vectors.specs.Vectors.{within};
 ghost use Rattle.ring.specs.Transform.{spectrumOf};
-ghost use Rattle.keys.specs.Key.{inRange, second, properKey, keyTest, keyTestOf};
+ghost use Rattle.keys.specs.Key.{inRange, second, relation, counted, hasCounts, rightCounts, properKey, keyTest, keyTestOf};
 use answers::Outcome;
 use sets::Asked;
 use sets::Set;
 
-// The key test: refusals 1, 2, 3, 7, 6.
+// The key test: refusals 1, 2, 3, 15, 6. Where the counts are right 7 can't occur, and no length is computed.
 pub fn key_test(set: u32, f: &[i8], g: &[i8], a: &[u16]) -> Outcome
     ensures { λ r. ⌜ r ≡ keyTest set (now (f .entry)) (now (g .entry)) (now (a .entry)) ⌝ }
 {
@@ -40,7 +40,7 @@ fn key_test_of(s: Set, f: &[i8], g: &[i8], a: &[u16]) -> Outcome
 fn examine(s: Set, f: &[i8], g: &[i8], a: &[u16]) -> Outcome
     requires { ⌜ (length (now f) ≡ dimension) × (length (now g) ≡ dimension) × (length (now a) ≡ dimension) ⌝ }
     ensures { λ r. ⌜ r ≡ must (inRange (now (f .entry)) (now (g .entry)) (now (a .entry))) CoefficientOutside
-        (properKey s (now (a .entry)) (now (f .entry)) (second (now (g .entry)))) ⌝ }
+        (properKey s (now (f .entry)) (now (g .entry)) (now (a .entry))) ⌝ }
 {
     let mut s1 = [0i16; Set::DIMENSION];
     let mut s2 = [0i16; Set::DIMENSION];
@@ -49,10 +49,16 @@ fn examine(s: Set, f: &[i8], g: &[i8], a: &[u16]) -> Outcome
     if !in_range(&s1, &s2, a) {
         return Outcome::CoefficientOutside;
     }
+    if !right_counts(s, &s1, &s2) {
+        return Outcome::CountsWrong;
+    }
     make_second(&mut s2);
     let mut spectrum = [0u16; Set::DIMENSION];
     ring::transform_key(a, &mut spectrum);
-    proper_key(s, a, &spectrum, &s1, &s2)
+    if !holds_relation(a, &spectrum, &s1, &s2) {
+        return Outcome::RelationBroken;
+    }
+    Outcome::Done
 }
 
 // Whether f, g and a have their coefficients in range; f and g are widened.
@@ -68,6 +74,41 @@ pub fn in_range(f: &[i16], g: &[i16], a: &[u16]) -> bool
     vectors::all_below(a, Set::MODULUS as u16)
 }
 
+// Whether f and g have the set's counts; both are widened.
+pub fn right_counts(s: Set, f: &[i16], g: &[i16]) -> bool
+    requires { ⌜ (length (now f) ≡ dimension) × (length (now g) ≡ dimension) ⌝ }
+    ensures { λ r. ⌜ r ≡ rightCounts s (now (f .entry)) (now (g .entry)) ⌝ }
+{
+    if !has_counts(s, f) {
+        return false;
+    }
+    has_counts(s, g)
+}
+
+fn has_counts(s: Set, f: &[i16]) -> bool
+    requires { ⌜ length (now f) ≡ dimension ⌝ }
+    ensures { λ r. ⌜ r ≡ hasCounts s (now (f .entry)) ⌝ }
+{
+    if count(f, 1) != s.ones() {
+        return false;
+    }
+    count(f, 2) == s.twos()
+}
+
+// How many coefficients are of this size.
+fn count(f: &[i16], size: u32) -> u16
+    requires { ⌜ length (now f) ≡ dimension ⌝ }
+    ensures { λ r. ⌜ r ≡ counted size (now (f .entry)) ⌝ }
+{
+    let mut found: u16 = 0;
+    for i in 0..Set::DIMENSION {
+        if vectors::size(f[i]) == size {
+            found += 1;
+        }
+    }
+    found
+}
+
 // g becomes s2 = 2g + 1.
 pub fn make_second(g: &mut [i16])
     requires { ⌜ (length (now g) ≡ dimension) × (every (within 2) (now g) ≡ true) ⌝ }
@@ -79,21 +120,15 @@ pub fn make_second(g: &mut [i16])
     g[0] = g[0] + 1;
 }
 
-// The squared length, then the relation: refusals 7, 6.
-pub fn proper_key(s: Set, a: &[u16], spectrum: &[u16], s1: &[i16], s2: &[i16]) -> Outcome
+// Whether a times s1 = s2 modulo q.
+pub fn holds_relation(a: &[u16], spectrum: &[u16], s1: &[i16], s2: &[i16]) -> bool
     requires { ⌜ (length (now a) ≡ dimension) × (length (now s1) ≡ dimension) × (length (now s2) ≡ dimension) ⌝ }
-    requires { ⌜ (now spectrum ≡ spectrumOf (now a)) × (every (within 5) (now s1) ≡ true) × (every (within 5) (now s2) ≡ true) ⌝ }
-    ensures { λ r. ⌜ r ≡ properKey s (now (a .entry)) (now (s1 .entry)) (now (s2 .entry)) ⌝ }
+    requires { ⌜ (now spectrum ≡ spectrumOf (now a)) × (every (within 5) (now s2) ≡ true) ⌝ }
+    ensures { λ r. ⌜ r ≡ relation (now (a .entry)) (now (s1 .entry)) (now (s2 .entry)) ⌝ }
 {
-    if s.key_limit() < vectors::squared_length(s1) + vectors::squared_length(s2) {
-        return Outcome::KeyTooLong;
-    }
     let mut t = [0u16; Set::DIMENSION];
     ring::multiply(a, spectrum, s1, &mut t);
-    if !are_residues(&t, s2) {
-        return Outcome::RelationBroken;
-    }
-    Outcome::Done
+    are_residues(&t, s2)
 }
 
 // Whether t is s modulo q, place by place. Not left early, as a range test is not.

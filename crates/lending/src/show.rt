@@ -99,15 +99,15 @@ pub fn response(text: &[u8], r: Response, z1: &[i16], z2: &[i16]) {
     print(b"\n");
 }
 
+// Of each vector the first six entries, and at how many places it is 0.
 fn entries(z1: &[i16], z2: &[i16]) {
-    let front = crate::first_wide(z1, 23);
-    print(b", z1 is -1 at ");
-    number(count(front, -1));
-    print(b" and 1 at ");
-    number(count(front, 1));
-    print(b" of places 0 to 22, 0 at ");
+    print(b", z1");
+    signed_entries(crate::first_wide(z1, 6));
+    print(b" .., 0 at ");
     number(count(z1, 0));
-    print(b"; z2 dagger is 0 at ");
+    print(b"; z2 dagger");
+    signed_entries(crate::first_wide(z2, 6));
+    print(b" .., 0 at ");
     number(count(z2, 0));
 }
 

@@ -118,7 +118,7 @@ module _ (s : Set) (c : Lent) (before : Admitted s c) where
   unfolding masked
   sum-at i h =
       sums-at i h (c .a) (before .key .long-a) (not (c .sign)) (c .y1) (c .y2) (v .first) (v .second) (before .long-y1) (before .long-y2) (v-512 .first) (v-512 .second)
-      (choices-carries key key-512 l (proper-places s l (before .list)) (c .a) (before .key .long-a) (key-carries s (c .a) (c .f) (second (c .g)) (before .key .proper)))
+      (choices-carries key key-512 l (proper-places s l (before .list)) (c .a) (before .key .long-a) (key-carries s (c .f) (c .g) (c .a) (before .key .proper)))
       (marks l) (mark i) (length-marks l) (mark-is i h) (v-parity i h)
 
   -- z2 dagger there

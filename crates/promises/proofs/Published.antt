@@ -168,7 +168,7 @@ carried-at a x s h ls i j =
 pub key-equation : KeyEquation
 key-equation set f g a passes =
     let some = key-tested-some set f g a (zero-is (keyTest set f g a) passes) in
-    let key = some .1 in
+    let key = some .2 in
     let left = times (a₁ a) f in
     let right = scaled (pos (modulus - 2)) (second g) in
     let ls = length-second g ∙ key .long-g in
@@ -179,7 +179,7 @@ key-equation set f g a passes =
     cong-trans (cong-eq (vectorSum-at left right ll lr i h ∙ ap₂ _+ℤ_ (double-at a f i h) (scaled-at (pos (modulus - 2)) (second g) ls i h)))
     (cong-trans
     (key-place (getD (times (map pos a) f) i (pos 0)) (getD (second g) i (pos 0)) (getD one i (pos 0))
-    (carried-at a f (second g) (key-carries (some .0) a f (second g) (key .proper)) ls i h) (second-parity g (key .long-g) i))
+    (carried-at a f (second g) (key-carries (some .0) f g a (key .proper)) ls i h) (second-parity g (key .long-g) i))
     (cong-eq (sym (scaled-at (pos modulus) one length-one i h)))))
 
 -- ---- Algorithm 2, line 6

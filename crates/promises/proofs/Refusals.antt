@@ -5,7 +5,8 @@ use mathlib.Core.List.{List, [], _∷_}
 use Prim.Native.Nat.{ℕ, suc, _*_, _≤_}
 use native.Mathlib.Omega.{arith}
 use borrow.Author.Needs.{needs}
-use lib.Dec.{leb}
+use borrow.Author.Tests.{eqb-false}
+use lib.Dec.{eqb, leb, lit≤}
 use lib.IntN.{ℤ, natAbs}
 use lib.ListN.{length}
 use Rattle.laws.specs.Refusals.{must}
@@ -35,30 +36,30 @@ pub only-done : OnlyDone
 only-done = (refl, zero-is)
 
 -- ---- what holds of every way through a chain holds of its answer
-record Holds {A : Type 0} (P : A → Type 0) (x : A) : Type 0 where
-  is : P x
+pub record Holds {A : Type 0} (P : A → Type 0) (x : A) : Type 0 where
+  pub is : P x
 
 module _ {A : Type 0} {P : A → Type 0} where
-  must-either : (test : Bool) (refusal next : A) → Holds P refusal → Holds P next → Holds P (must test refusal next)
+  pub must-either : (test : Bool) (refusal next : A) → Holds P refusal → Holds P next → Holds P (must test refusal next)
   must-either true refusal next p q = q
   must-either false refusal next p q = p
 
-  set-either : (asked : Asked) (refusal : A) (next : Set → A) → Holds P refusal → ((s : Set) → Holds P (next s)) → Holds P (forSet asked refusal next)
+  pub set-either : (asked : Asked) (refusal : A) (next : Set → A) → Holds P refusal → ((s : Set) → Holds P (next s)) → Holds P (forSet asked refusal next)
   set-either (Known s) refusal next p q = q s
   set-either Unknown refusal next p q = p
 
-  walk-either : (ending : Ending) (accepted rejected : ℕ → A) (short : A) → ((n : ℕ) → Holds P (accepted n)) → ((n : ℕ) → Holds P (rejected n)) → Holds P short
+  pub walk-either : (ending : Ending) (accepted rejected : ℕ → A) (short : A) → ((n : ℕ) → Holds P (accepted n)) → ((n : ℕ) → Holds P (rejected n)) → Holds P short
       → Holds P (afterWalk ending accepted rejected short)
   walk-either (Accepted n) accepted rejected short p q r = p n
   walk-either (Rejected n) accepted rejected short p q r = q n
   walk-either OutOfWords accepted rejected short p q r = r
 
-  header-either : (header : Header) (malformed : ℕ → A) (states : Set → A) → ((place : ℕ) → Holds P (malformed place)) → ((s : Set) → Holds P (states s))
+  pub header-either : (header : Header) (malformed : ℕ → A) (states : Set → A) → ((place : ℕ) → Holds P (malformed place)) → ((s : Set) → Holds P (states s))
       → Holds P (opened header malformed states)
   header-either (Malformed place) malformed states p q = p place
   header-either (States s) malformed states p q = q s
 
-ruleset ways = (needs, must-either, set-either, walk-either, header-either)
+pub ruleset ways = (needs, must-either, set-either, walk-either, header-either)
 
 -- ---- what a call has left is what was there, where its answer is not 0: `answer` and `left` read these two off
 abbrev Keeps : {A B : Type 0} → (A → Outcome) → (A → B) → B → A → Type 0
@@ -74,7 +75,7 @@ module _ {A B : Type 0} (answer : A → Outcome) (left : A → B) (old : B) wher
 ruleset ends = (refl, kept, done)
 
 -- a vector
-abbrev filledAnswer : Filled → Outcome
+abbrev pub filledAnswer : Filled → Outcome
 filledAnswer (filled o after) = o
 
 abbrev filledLeft : Filled → List ℕ
@@ -88,7 +89,7 @@ pub commitment-keeps : CommitmentKeeps
 commitment-keeps set a y1 y2 out o after e = subst (Keeps filledAnswer filledLeft out) e (commitment-holds set a y1 y2 out .is)
 
 -- the digits and the rests
-abbrev restsAnswer : WithRests → Outcome
+abbrev pub restsAnswer : WithRests → Outcome
 restsAnswer (withRests o digits rests) = o
 
 abbrev restsLeft : WithRests → List ℕ × List ℤ
@@ -118,7 +119,7 @@ pub writer-keeps : WriterKeeps
 writer-keeps set z1 z2 l out o after e = subst (Keeps filledAnswer filledLeft out) e (writer-holds set z1 z2 l out .is)
 
 -- the reader's set and its three buffers
-abbrev foundAnswer : Found → Outcome
+abbrev pub foundAnswer : Found → Outcome
 foundAnswer (found o set after1 after2 after3) = o
 
 abbrev Kept : Type 0
@@ -137,7 +138,7 @@ reader-keeps rec out1 out2 out3 o set after1 after2 after3 e n =
     (ap (λ (x : Kept). x .0) same, ap (λ (x : Kept). x .1) same, ap (λ (x : Kept). x .2) same, ap (λ (x : Kept). x .3) same)
 
 -- the response's two vectors
-abbrev respondedAnswer : Responded → Outcome
+abbrev pub respondedAnswer : Responded → Outcome
 respondedAnswer (responded o count after1 after2) = o
 
 abbrev respondedLeft : Responded → List ℤ × List ℤ
@@ -145,24 +146,24 @@ respondedLeft (responded o count after1 after2) = (after1, after2)
 
 -- ---- its count
 abbrev Counts : ℕ → Responded → Type 0
-Counts lent (responded o count after1 after2) = (1 ≤ numberOf o → numberOf o ≤ 7 → count ≡ 0) × (numberOf o ≡ 9 → count ≡ lent)
+Counts lent (responded o count after1 after2) = (1 ≤ numberOf o → numberOf o ≤ 7 → count ≡ 0) × (numberOf o ≡ 15 → count ≡ 0) × (numberOf o ≡ 9 → count ≡ lent)
 
--- the tests before the draw answer at most 7
+-- the tests before the draw do not answer 9
 abbrev Early : Outcome → Type 0
-Early o = numberOf o ≤ 7
+Early o = numberOf o ≡ 9 → ⊥
 
-early : (o : Outcome) → numberOf o ≤ 7 → Holds Early o
-early o h = record { is = h }
+early : (o : Outcome) → eqb (numberOf o) 9 ≡ false → Holds Early o
+early o h = record { is = eqb-false (numberOf o) 9 h }
 
 -- the length rule answers 0, 10 or 11
-abbrev Late : Outcome → Type 0
-Late o = 1 ≤ numberOf o → 10 ≤ numberOf o
+abbrev pub Late : Outcome → Type 0
+Late o = 1 ≤ numberOf o → (10 ≤ numberOf o) × (numberOf o ≤ 11)
 
 late-beyond : (place : ℕ) → Holds Late (EntryBeyond place)
-late-beyond place = record { is = λ n. omega arith }
+late-beyond place = record { is = λ n. (lit≤ tt, lit≤ tt) }
 
 late-above : Holds Late SumAbove
-late-above = record { is = λ n. omega arith }
+late-above = record { is = λ n. (lit≤ tt, lit≤ tt) }
 
 late-done : Holds Late Done
 late-done = record { is = λ n. absurd (omega arith) }
@@ -173,27 +174,27 @@ late-entries limit factor place [] next h = h
 late-entries limit factor place (y ∷ x) next h =
     must-either (leb (factor * natAbs y) limit) (EntryBeyond place) _ (late-beyond place) (late-entries limit factor (suc place) x next h)
 
-late-rule : (s : Set) (z1 z2 : List ℤ) → Holds Late (lengthRule s z1 z2)
+pub late-rule : (s : Set) (z1 z2 : List ℤ) → Holds Late (lengthRule s z1 z2)
 unfolding lengthRule
 late-rule s z1 z2 = search (ways, late-above, late-done, late-entries)
 
-early-key : (s : Set) (a : List ℕ) (s1 s2 : List ℤ) → Holds Early (properKey s a s1 s2)
+early-key : (s : Set) (f g : List ℤ) (a : List ℕ) → Holds Early (properKey s f g a)
 unfolding properKey
-early-key s a s1 s2 = search (ways, early)
+early-key s f g a = search (ways, early)
 
 module _ (lent : ℕ) (z1 z2 : List ℤ) where
   counts-early : (o : Outcome) → Holds Early o → Holds (Counts lent) (responded o 0 z1 z2)
-  counts-early o h = record { is = (λ m n. refl, λ e. absurd (omega (arith, h .is))) }
+  counts-early o h = record { is = (λ m n. refl, λ e. refl, λ e. absurd (h .is e)) }
 
   counts-short : Holds (Counts lent) (responded WordMissing lent z1 z2)
-  counts-short = record { is = (λ m n. absurd (omega arith), λ e. refl) }
+  counts-short = record { is = (λ m n. absurd (omega arith), λ e. absurd (omega arith), λ e. refl) }
 
   counts-rejected : (count : ℕ) → Holds (Counts lent) (responded DrawRejected count z1 z2)
-  counts-rejected count = record { is = (λ m n. absurd (omega arith), λ e. absurd (omega arith)) }
+  counts-rejected count = record { is = (λ m n. absurd (omega arith), λ e. absurd (omega arith), λ e. absurd (omega arith)) }
 
   counts-late : (count : ℕ) (o : Outcome) → Holds Late o → Holds (Counts lent) (responded o count z1 z2)
   counts-late count o h =
-      record { is = (λ m n. absurd (omega (arith, h .is m)), λ e. absurd (omega (arith, h .is (omega arith)))) }
+      record { is = (λ m n. absurd (omega (arith, h .is m)), λ e. absurd (omega (arith, h .is (omega arith))), λ e. absurd (omega (arith, h .is (omega arith)))) }
 
 module _ (set : ℕ) (c : Lent) where
   response-holds : Holds (Keeps respondedAnswer respondedLeft (c .z1, c .z2)) (response set c)

@@ -13,7 +13,7 @@ use Rattle.answers.specs.declared.Outcome.the-variants.{Done, UnknownSet, Wrong
 use Rattle.answers.specs.Outcomes.{isDone}
 use Rattle.vectors.specs.Places.{properList}
 use Rattle.limits.specs.LengthRule.{lengthRule}
-use Rattle.keys.specs.Key.{inRange, second, properKey}
+use Rattle.keys.specs.Key.{inRange, properKey}
 use Rattle.commitment.specs.Commitment.{areMasks}
 use Rattle.vectors.specs.Pairs.{Pair, pair}
 use Rattle.choices.specs.Choices.{choices}
@@ -81,7 +81,7 @@ module _ (c : Lent) (count : ℕ) (z1 z2 : List ℤ) where
       let two = must-passed outcomeOf (inRange (c .f) (c .g) (c .a)) (early c CoefficientOutside) _ refl (one .1) in
       let three = must-passed outcomeOf (areMasks (c .y1) (c .y2)) (early c MaskOutside) _ refl (two .1) in
       let four = must-passed outcomeOf (properList s (c .list)) (early c ImproperList) _ refl (three .1) in
-      let five = unless-passed outcomeOf (properKey s (c .a) (c .f) (second (c .g))) (early c) (drawn s (drawing c) (chosenOf c)) refl (four .1) in
+      let five = unless-passed outcomeOf (properKey s (c .f) (c .g) (c .a)) (early c) (drawn s (drawing c) (chosenOf c)) refl (four .1) in
       let long = all-sized c (one .0) in (
         record {
           key = record {

@@ -1,5 +1,5 @@
 -- The numbers of the draw's trials. Assumes nothing.
-use mathlib.Core.Path.{_≡_, refl, ap}
+use mathlib.Core.Path.{_≡_, refl}
 use mathlib.Core.Bool.{Bool, true, not}
 use mathlib.Core.List.{List}
 use Prim.Native.Nat.{ℕ, _+_, _*_, _^_, _<_, _≤_}
@@ -12,7 +12,6 @@ use Rattle.laws.proofs.Bounds.{abs-add}
 use Rattle.sets.specs.declared.Set.{Set}
 use Rattle.sets.specs.Numbers.{dimension, maskLimit, places, kappaOf, keyLimitOf}
 use Rattle.sets.proofs.Alike.{first-trial}
-use Rattle.answers.specs.Outcomes.{isDone}
 use Rattle.vectors.specs.Vectors.{squares, inner, sizes}
 use Rattle.vectors.specs.Places.{properList}
 use Rattle.vectors.proofs.Ranges.{within-wider}
@@ -27,9 +26,8 @@ use Rattle.choices.proofs.Pairs.{Sized, Within}
 use Rattle.masking.specs.Masking.{masked}
 use Rattle.masking.proofs.Numbers.{first-mask, second-mask, z-within, sizes-z, trial-fits}
 use Rattle.masking.proofs.Chosen.{chosen-sized, chosen-short, chosen-within}
-use Rattle.signing.proofs.Ways.{short-key}
 use Rattle.promises.specs.Demands.{TrialsFit}
-use Rattle.promises.proofs.Keys.{Tested, key-sized, passing}
+use Rattle.promises.proofs.Keys.{Tested, key-short, key-sized, passing}
 
 module _ (s : Set) (f g : List ℤ) (a l : List ℕ) (key : Tested s f g a) (proper : properList s l ≡ true) where
   abbrev v : Pair
@@ -42,7 +40,7 @@ module _ (s : Set) (f g : List ℤ) (a l : List ℕ) (key : Tested s f g a) (pro
   sized = chosen-sized s f (second g) l (key-512 .first) (key-512 .second) proper (v .first) (v .second) refl
 
   pub short : squares (v .first) + squares (v .second) ≤ kappaOf s * keyLimitOf s
-  short = chosen-short s f (second g) l (key-512 .first) (key-512 .second) proper (v .first) (v .second) refl (short-key s a f (second g) (ap isDone (key .proper)))
+  short = chosen-short s f (second g) l (key-512 .first) (key-512 .second) proper (v .first) (v .second) refl (key-short s f g a (key .proper))
 
   small : Within (kappaOf s * 5) (pair (v .first) (v .second))
   small =

@@ -77,11 +77,12 @@ ReaderKeeps =
     → (set ≡ 0) × (after1 ≡ out1) × (after2 ≡ out2) × (after3 ≡ out3)
 
 -- "The word count is 0 for refusals before the draw; with 9 it is the number of words lent" (01). The refusals before the draw are numbers 1 to 7
+-- and 15
 abbrev pub ResponseCounts : Type 0
 ResponseCounts =
     (set : ℕ) (c : Lent) (o : Outcome) (count : ℕ) (after1 after2 : List ℤ)
     → response set c ≡ responded o count after1 after2
-    → (1 ≤ numberOf o → numberOf o ≤ 7 → count ≡ 0) × (numberOf o ≡ 9 → count ≡ length (c .words))
+    → (1 ≤ numberOf o → numberOf o ≤ 7 → count ≡ 0) × (numberOf o ≡ 15 → count ≡ 0) × (numberOf o ≡ 9 → count ≡ length (c .words))
 
 -- ---- demand 3
 

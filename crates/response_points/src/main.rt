@@ -1,6 +1,7 @@
 // Two reference points of 01, computed by the library's own functions.
 // - 12288 t modulo 24578: t = 0, 1, 2 give 0, 12288, 24576.
 // - Set 1, f = 1, g = 0, masks zero, list 0 .. 22: v is -1 at places 0 .. 22 of both halves, squared length 46. The first trial is of 17,779, the second of 92.
+//   No call takes this key (refusal 15, see signing_points): its walk is a point of the draw.
 ghost use mathlib.Core.Path.{_≡_};
 ghost use mathlib.Core.Bool.{true};
 ghost use Prim.Native.Nat.{_+_, _*_, _^_, _<_, _≤_};
@@ -10,6 +11,7 @@ ghost use Rattle.sets.specs.Numbers.{dimension, listLimit, kappaOf, keyLimitOf}
 ghost use Rattle.vectors.specs.Vectors.{within, squares};
 ghost use Rattle.vectors.specs.Pairs.{pair, squaresPair};
 ghost use Rattle.vectors.specs.Places.{properList};
+use draw::Ending;
 use libc::STDOUT_FILENO;
 use sets::Set;
 
@@ -75,8 +77,11 @@ fn show(s: Set, v1: &[i16], v2: &[i16])
     print_half(b"  v2", v2, kappa);
     let squared = masking::squared_length(v1, v2);
     print_number(b"  squared length of v: ", squared);
-    print_number(b"  first trial: ", masking::first_trial(s, squared) as u64);
-    print_number(b"  second trial: ", second_trial(v1, v2, squared) as u64);
+    let first = masking::first_trial(s, squared);
+    let second = second_trial(v1, v2, squared);
+    print_number(b"  first trial: ", first as u64);
+    print_number(b"  second trial: ", second as u64);
+    walks(first, second);
 }
 
 fn second_trial(v1: &[i16], v2: &[i16], squared: u64) -> u32
@@ -84,6 +89,60 @@ fn second_trial(v1: &[i16], v2: &[i16], squared: u64) -> u32
 {
     let masks = [0i16; Set::DIMENSION];
     masking::second_trial(&masks, &masks, v1, v2, squared, false)
+}
+
+// ---- the walk
+
+// On words of 0, as many as are lent.
+fn walks(first: u32, second: u32) {
+    let zeros = [0u64; 12];
+    walked(b"  thresholds 1, twelve words", first, second, 1, &zeros);
+    walked(
+        b"  thresholds 1, eleven words",
+        first,
+        second,
+        1,
+        &zeros[..11],
+    );
+    walked(b"  thresholds 0, one word", first, second, 0, &zeros[..1]);
+    walked(b"  thresholds 1, no words", first, second, 1, &zeros[..0]);
+    walked(b"  thresholds 0, no words", first, second, 0, &zeros[..0]);
+    unequal(first, second);
+}
+
+// On twenty words. The trials are of unequal numbers: exchanged, the sixth word would fall to the second, and the trial tried again would take 8 words.
+fn unequal(first: u32, second: u32) {
+    let mut words = [0u64; 20];
+    words[5] = 1;
+    walked(
+        b"  thresholds 1, the sixth word 1",
+        first,
+        second,
+        1,
+        &words,
+    );
+    words[5] = 0;
+    words[8] = 1;
+    words[9] = 1;
+    walked(
+        b"  thresholds 1, the ninth and the tenth 1",
+        first,
+        second,
+        1,
+        &words,
+    );
+}
+
+fn walked(text: &[u8], first: u32, second: u32, threshold: u64, words: &[u64]) {
+    let thresholds = [threshold; Set::PLACES];
+    let ending = draw::walk(first, second, words, &thresholds);
+    print(text);
+    match ending {
+        Ending::Accepted(_) => print(b": accepted"),
+        Ending::Rejected(_) => print(b": rejected"),
+        Ending::OutOfWords => print(b": out of words"),
+    }
+    print_number(b", words taken ", draw::taken(ending, words) as u64);
 }
 
 // ---- what is printed

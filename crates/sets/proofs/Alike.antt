@@ -12,7 +12,7 @@ use Rattle.sets.specs.declared.Set.{Set}
 use Rattle.sets.specs.declared.Set.the-variants.{I, II, III, IV}
 use Rattle.sets.specs.declared.Asked.{Asked}
 use Rattle.sets.specs.declared.Asked.the-variants.{Known, Unknown}
-use Rattle.sets.specs.Numbers.{twiceModulus, maskLimit, listLimit, listOffset, recordLimit, Largest, kappaOf, dOf, pOf, largestOf, boundOf, boundSquaredOf, keyLimitOf, totalOf, setNumberOf, namedOf, askedOf}
+use Rattle.sets.specs.Numbers.{dimension, twiceModulus, maskLimit, listLimit, listOffset, recordLimit, Largest, kappaOf, dOf, pOf, largestOf, boundOf, boundSquaredOf, keyLimitOf, onesOf, twosOf, coefficientLimitOf, totalOf, setNumberOf, namedOf, askedOf}
 
 -- a statement about a set, from its four cases
 each : (P : Set → Type 0) → P I → P II → P III → P IV → (s : Set) → P s
@@ -85,6 +85,13 @@ bound-squared = each _ refl refl refl refl
 
 pub key-limit-small : (s : Set) → keyLimitOf s ≤ 1784
 key-limit-small = each _ (lit≤ tt) (lit≤ tt) (lit≤ tt) (lit≤ tt)
+
+-- K is what the counts come to at most: d1 + 4 d2 for f, four times that for 2g, and what the 1 at place 0 adds to the largest coefficient there
+pub key-limit-is : (s : Set) → keyLimitOf s ≡ 5 * (onesOf s + 4 * twosOf s) + (4 * coefficientLimitOf s + 1)
+key-limit-is = each _ refl refl refl refl
+
+pub counts-fit : (s : Set) → onesOf s + twosOf s ≤ dimension
+counts-fit = each _ (lit≤ tt) (lit≤ tt) (lit≤ tt) (lit≤ tt)
 
 -- the first trial's number has no place above 30
 pub first-trial : (s : Set) → kappaOf s * keyLimitOf s < 2 ^ 31

@@ -111,6 +111,24 @@ keyLimitOf II = 775
 keyLimitOf III = 1409
 keyLimitOf IV = 1784
 
+-- d1: how many coefficients of f are 1 or -1, and how many of g (02, C-12)
+abbrev pub onesOf : Set → ℕ
+onesOf I = 154
+onesOf II = 154
+onesOf III = 216
+onesOf IV = 231
+
+-- d2: how many are 2 or -2; the rest is zero
+abbrev pub twosOf : Set → ℕ
+twosOf I = 0
+twosOf II = 0
+twosOf III = 16
+twosOf IV = 31
+
+-- the largest coefficient that these counts leave to f and to g
+abbrev pub coefficientLimitOf : Set → ℕ
+coefficientLimitOf s = cond (eqb (twosOf s) 0) 1 2
+
 -- the bytes of a record
 abbrev pub totalOf : Set → ℕ
 totalOf s = listOffset + 2 * kappaOf s

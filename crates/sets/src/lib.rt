@@ -1,7 +1,7 @@
 // The parameter sets: the numbers of a set are asked of the set and stand nowhere else (01, "Parameters").
 ghost use mathlib.Core.Path.{_≡_};
 ghost use Prim.Native.Nat.{_^_};
-ghost use Rattle.sets.specs.Numbers.{kappaOf, dOf, pOf, largestOf, boundSquaredOf, keyLimitOf, totalOf, setNumberOf, namedOf, askedOf};
+ghost use Rattle.sets.specs.Numbers.{kappaOf, dOf, pOf, largestOf, boundSquaredOf, keyLimitOf, onesOf, twosOf, totalOf, setNumberOf, namedOf, askedOf};
 
 // The bytes of a record's header, and where z1, z2 dagger and the list start (01, "The record").
 pub const HEADER_LENGTH: usize = 24;
@@ -120,6 +120,30 @@ impl Set {
             Set::II => 775,
             Set::III => 1409,
             Set::IV => 1784,
+        }
+    }
+
+    // d1: how many coefficients of f are 1 or -1, and how many of g.
+    pub fn ones(self) -> u16
+        ensures { λ r. ⌜ r ≡ onesOf self ⌝ }
+    {
+        match self {
+            Set::I => 154,
+            Set::II => 154,
+            Set::III => 216,
+            Set::IV => 231,
+        }
+    }
+
+    // d2: how many are 2 or -2.
+    pub fn twos(self) -> u16
+        ensures { λ r. ⌜ r ≡ twosOf self ⌝ }
+    {
+        match self {
+            Set::I => 0,
+            Set::II => 0,
+            Set::III => 16,
+            Set::IV => 31,
         }
     }
 

@@ -1,26 +1,25 @@
 -- The ways on through a response: a refusal before the draw, the lengths that were tested, and what the sign choices bring to the draw. Assumes nothing.
 use mathlib.Core.Path.{_≡_, refl, ap₂}
-use mathlib.Core.Bool.{true, _&&_}
+use mathlib.Core.Bool.{Bool, true, false, _&&_}
 use mathlib.Core.List.{List}
-use Prim.Native.Nat.{ℕ, _+_, _≤_}
-use borrow.Author.Tests.{eq-eqb, eqb-true, leb-true}
-use lib.Dec.{leb}
+use Prim.Native.Nat.{ℕ}
+use borrow.Author.Tests.{eq-eqb, eqb-true}
 use lib.IntN.{ℤ}
 use lib.ListN.{length}
 use Rattle.laws.specs.Refusals.{must}
 use Rattle.laws.proofs.Chain.{and-left, and-right}
 use Rattle.sets.specs.declared.Set.{Set}
-use Rattle.sets.specs.Numbers.{dimension, places, keyLimitOf}
+use Rattle.sets.specs.Numbers.{dimension, places}
 use Rattle.answers.specs.declared.Outcome.{Outcome}
-use Rattle.answers.specs.declared.Outcome.the-variants.{Done, RelationBroken, KeyTooLong}
-use Rattle.answers.specs.Outcomes.{isDone, unless}
-use Rattle.answers.proofs.Calls.{done-test}
-use Rattle.vectors.specs.Vectors.{sized, squares}
-use Rattle.keys.specs.Key.{relation, properKey}
+use Rattle.answers.specs.declared.Outcome.the-variants.{Done, RelationBroken, CountsWrong}
+use Rattle.answers.specs.Outcomes.{unless}
+use Rattle.vectors.specs.Vectors.{sized}
+use Rattle.keys.specs.Key.{inRange, second, relation, rightCounts, properKey}
 use Rattle.keys.proofs.Ranges.{sized-three, sized-four}
-use Rattle.vectors.specs.Pairs.{Pair, pair, squaresPair}
+use Rattle.keys.proofs.Counts.{proper-by-relation, improper-by-counts}
+use Rattle.vectors.specs.Pairs.{Pair}
 use Rattle.choices.specs.Choices.{choices}
-use Rattle.signing.specs.Response.{Lent, drawing, Responded, responded, drawn, allSized, early}
+use Rattle.signing.specs.Response.{Lent, secret, drawing, Responded, responded, drawn, allSized, early}
 
 -- a refusal before the draw
 pub refusal-at : (o o′ : Outcome) (n : ℕ) (x y : List ℤ) → o ≡ o′ → n ≡ 0 → responded o n x y ≡ responded o′ 0 x y
@@ -54,14 +53,24 @@ are-sized c h =
     )
 
 -- ---- the key
-pub short-key : (s : Set) (a : List ℕ) (s1 s2 : List ℤ) → isDone (properKey s a s1 s2) ≡ true → squares s1 + squares s2 ≤ keyLimitOf s
-unfolding properKey
-short-key s a s1 s2 e =
-    leb-true (squaresPair (pair s1 s2)) (keyLimitOf s)
-    (done-test KeyTooLong (must (relation a s1 s2) RelationBroken Done) refl (leb (squaresPair (pair s1 s2)) (keyLimitOf s)) e)
 
--- what is left of the response once key, masks and list are in range: the tests of the key as s1 and s2, then the draw
+-- what is left of the response once masks and list are in range and the key's counts are right: its relation, then the draw
 abbrev pub signedWith : Set → Lent → Pair → Responded
 signedWith s c key =
-    unless (properKey s (c .a) (key .first) (key .second)) (early c)
+    must (relation (c .a) (key .first) (key .second)) (early c RelationBroken)
     (drawn s (drawing c) (choices key (c .list)))
+
+must-unless : (related : Bool) (answer : Outcome → Responded) (next : Responded) → must related (answer RelationBroken) next ≡ unless (must related RelationBroken Done) answer next
+must-unless true answer next = refl
+must-unless false answer next = refl
+
+-- that is all that is left of the tests of the key
+pub signed-with : (s : Set) (c : Lent) → inRange (c .f) (c .g) (c .a) ≡ true → rightCounts s (c .f) (c .g) ≡ true
+    → signedWith s c (secret c) ≡ unless (properKey s (c .f) (c .g) (c .a)) (early c) (drawn s (drawing c) (choices (secret c) (c .list)))
+signed-with s c range counts =
+    rw (proper-by-relation s (c .f) (c .g) (c .a) range counts)
+    (must-unless (relation (c .a) (c .f) (second (c .g))) (early c) (drawn s (drawing c) (choices (secret c) (c .list))))
+
+pub counts-refused : (s : Set) (c : Lent) (next : Responded) → rightCounts s (c .f) (c .g) ≡ false
+    → early c CountsWrong ≡ unless (properKey s (c .f) (c .g) (c .a)) (early c) next
+counts-refused s c next counts = rw (improper-by-counts s (c .f) (c .g) (c .a) counts)

@@ -1,4 +1,4 @@
--- The response (01, "Response", "The draw", "Length rule" and "Numbers that come back").
+-- The response (01, "Response", "The draw", "Length rule" and "Numbers that come back"; 02, C-12).
 use mathlib.Core.Bool.{Bool, _&&_}
 use mathlib.Core.List.{List}
 use Prim.Native.Nat.{ℕ}
@@ -68,7 +68,7 @@ leaving x count o = responded o count (x .first) (x .second)
 abbrev pub shortened : Set → Drawing → Pair → Pair
 shortened s d z = pair (z .first) (daggers s (sums (d .a) (d .y .first) (d .y .second)) (z .second))
 
--- ---- the refusals in their order: 1, 2, 3, 4, 5, 7, 6, 8 or 9, 10, 11
+-- ---- the refusals in their order: 1, 2, 3, 4, 5, 15, 7, 6, 8 or 9, 10, 11
 
 -- 10, 11: the length rule of z1 and z2 dagger, which are given out where it passes
 abbrev pub given : Set → Pair → ℕ → Pair → Responded
@@ -95,14 +95,14 @@ allSized c =
 abbrev pub early : Lent → Outcome → Responded
 early c = leaving (pair (c .z1) (c .z2)) 0
 
--- 2, 3, 4, 5, 7, 6, then the draw with v, the sign choices
+-- 2, 3, 4, 5, then 15, 7, 6 of the key, then the draw with v, the sign choices
 unfoldable pub responseFor : Set → Lent → Responded
 responseFor s c =
     must (allSized c) (early c WrongLength)
     (must (inRange (c .f) (c .g) (c .a)) (early c CoefficientOutside)
     (must (areMasks (c .y1) (c .y2)) (early c MaskOutside)
     (must (properList s (c .list)) (early c ImproperList)
-    (unless (properKey s (c .a) (c .f) (second (c .g))) (early c)
+    (unless (properKey s (c .f) (c .g) (c .a)) (early c)
     (drawn s (drawing c) (choices (secret c) (c .list)))))))
 
 -- 1, then the above

@@ -7,11 +7,12 @@ ghost use lib.IntN.{pos, natAbs};
 ghost use lib.ListN.{length, getD};
 ghost use Rattle.laws.specs.Lists.{every};
 ghost use Rattle.sets.specs.Numbers.{dimension, places, kappaOf, keyLimitOf};
-ghost use Rattle.answers.specs.Outcomes.{unless};
+ghost use Rattle.laws.specs.Refusals.{must};
+ghost use Rattle.answers.specs.declared.Outcome.the-variants.{RelationBroken};
 ghost use Rattle.ring.specs.Transform.{spectrumOf};
 ghost use Rattle.vectors.specs.Vectors.{within, squares};
 ghost use Rattle.vectors.specs.Places.{properList};
-ghost use Rattle.keys.specs.Key.{properKey};
+ghost use Rattle.keys.specs.Key.{relation};
 ghost use Rattle.commitment.specs.Commitment.{areMasks, sums};
 ghost use Rattle.vectors.specs.Pairs.{pair};
 ghost use Rattle.choices.specs.Choices.{choices};
@@ -28,7 +29,7 @@ pub struct Response {
     pub words: usize,
 }
 
-// The response: refusals 1, 2, 3, 4, 5, 7, 6, then 8 or 9 as the walk ends, then 10, 11.
+// The response: refusals 1, 2, 3, 4, 5, 15, 6, then 8 or 9 as the walk ends, then 10, 11. As in the key test, 7 can't occur.
 pub fn respond(
     set: u32,
     f: &[i8],
@@ -121,7 +122,7 @@ fn all_sized(four: bool, three: bool, thresholds: usize) -> bool
     thresholds == Set::PLACES
 }
 
-// Refusals 3, 4, 5; s1 and s2 are made here.
+// Refusals 3, 4, 5, 15; s1 and s2 are made here.
 fn test(
     s: Set,
     f: &[i8],
@@ -163,8 +164,13 @@ fn test(
     if !commitment::are_masks(y1, y2) {
         return refusal(Outcome::MaskOutside);
     }
-    if !vectors::is_proper(s, list) {
+    let proper = vectors::is_proper(s, list);
+    if !proper {
         return refusal(Outcome::ImproperList);
+    }
+    let right = keys::right_counts(s, &s1, &s2);
+    if !right {
+        return refusal(Outcome::CountsWrong);
     }
     keys::make_second(&mut s2);
     sign_with(
@@ -183,7 +189,7 @@ fn test(
     )
 }
 
-// Refusals 7, 6, and the sign choices. The key is transformed once, for its relation and for u.
+// Refusal 6, and the sign choices. The key is transformed once, for its relation and for u.
 fn sign_with(
     s: Set,
     s1: &[i16],
@@ -201,8 +207,9 @@ fn sign_with(
     requires { ⌜ (length (now s1) ≡ dimension) × (length (now s2) ≡ dimension) × (length (now a) ≡ dimension) × (length (now thresholds) ≡ places) ⌝ }
     requires { ⌜ (length (now y1) ≡ dimension) × (length (now y2) ≡ dimension) × (length (now z1) ≡ dimension) × (length (now z2) ≡ dimension) ⌝ }
     requires { ⌜ (every (within 5) (now s1) ≡ true) × (every (within 5) (now s2) ≡ true) × (areMasks (now y1) (now y2) ≡ true) × (properList s (now list) ≡ true) ⌝ }
+    requires { ⌜ squares (now s1) + squares (now s2) ≤ keyLimitOf s ⌝ }
     ensures { λ r. ⌜ responded (r .outcome) (r .words) (now (z1 .exit)) (now (z2 .exit))
-        ≡ unless (properKey s (now (a .entry)) (now (s1 .entry)) (now (s2 .entry))) (leaving (pair (now (z1 .entry)) (now (z2 .entry))) 0)
+        ≡ must (relation (now (a .entry)) (now (s1 .entry)) (now (s2 .entry))) (leaving (pair (now (z1 .entry)) (now (z2 .entry))) 0 RelationBroken)
         (drawn s (record {
           a = now (a .entry);
           y = pair (now (y1 .entry)) (now (y2 .entry));
@@ -215,9 +222,8 @@ fn sign_with(
 {
     let mut spectrum = [0u16; Set::DIMENSION];
     ring::transform_key(a, &mut spectrum);
-    let o = keys::proper_key(s, a, &spectrum, s1, s2);
-    if !o.is_done() {
-        return refusal(o);
+    if !keys::holds_relation(a, &spectrum, s1, s2) {
+        return refusal(Outcome::RelationBroken);
     }
     let mut v1 = [0i16; Set::DIMENSION];
     let mut v2 = [0i16; Set::DIMENSION];

@@ -1,98 +1,259 @@
-// The response on 01's reference point: set 1, f = 1, g = 0, a = 1, masks zero, list 0 to 22. The first trial is of 17,779 with 8 set places, the second of 92
-// with 4.
+// The response: 01's reference point, whose thin key is refused, and keys of the set's counts.
+ghost use mathlib.Core.Path.{_≡_};
+ghost use lib.ListN.{length};
 use bursztok::Response;
 use lending::rows;
 use lending::show;
 use sets::Set;
+use test_keys::Shape;
+
+// What is lent beside masks of 0: the set; the set whose list it is, kappa places from 0 on; f and g, with a = (2g + 1) / f, and so much more at
+// place 511; y1 at place 511; the sign bit; every threshold; the count of words, all 0 but the one at `odd` and the next.
+struct Case {
+    set: u32,
+    list_of: Set,
+    f: Shape,
+    g: Shape,
+    more: u16,
+    mask: i16,
+    sign: bool,
+    threshold: u64,
+    words: usize,
+    odd: usize,
+}
+
+// No word is odd.
+const NONE: usize = 90;
 
 pub fn run() {
-    show::heading(b"response, f = 1, g = 0, a = 1, masks zero, list 0 to 22, words zero");
-    drawn(b"thresholds 1, twelve words", 1, false, 1, 12);
-    drawn(b"set 0, the same", 0, false, 1, 12);
-    drawn(b"sign bit 1", 1, true, 1, 12);
-    drawn(b"eleven words", 1, false, 1, 11);
-    drawn(b"no words", 1, false, 1, 0);
-    drawn(b"thresholds 0, one word", 1, false, 0, 1);
-    drawn(b"thresholds 0, no words", 1, false, 0, 0);
-    drawn(b"set 2", 2, false, 1, 12);
-    drawn(b"set 4: 39 places are wanted", 4, false, 1, 12);
-    drawn(b"set 5", 5, false, 1, 12);
+    thin();
+    own(b"set 1, 154 and 0", 1, Set::I);
+    own(b"set 0, the same", 0, Set::I);
+    own(b"set 2, 154 and 0", 2, Set::II);
+    own(b"set 3, 216 and 16", 3, Set::III);
+    own(b"set 4, 231 and 31", 4, Set::IV);
     unequal();
+    counts();
+    faults();
 }
 
-// Words of 0, as many as are lent.
-fn drawn(text: &[u8], set: u32, sign: bool, threshold: u64, count: usize) {
-    let zeros = [0u64; 12];
+// f = 1, g = 0, a = 1: refused before the draw. Its walk is in response_points.
+fn thin() {
+    show::heading(b"response, f = 1, g = 0, a = 1, masks zero, list 0 to 22, words zero");
+    shown(b"set 1, thresholds 1, twelve words", one(1, 1, 12));
+    shown(b"set 0, the same", one(0, 1, 12));
+    shown(b"set 2, the same", one(2, 1, 12));
+    shown(b"eleven words", one(1, 1, 11));
+    shown(b"thresholds 0, one word", one(1, 0, 1));
+    shown(b"no words", one(1, 1, 0));
+    shown(b"set 4: 39 places are wanted", one(4, 1, 12));
+    shown(b"set 5", one(5, 1, 12));
+    show::heading(
+        b"response, f and g of the set's counts, masks zero, list 0, 1, 2, .., words zero",
+    );
+}
+
+// With enough words, one too few, either sign bit, and thresholds that nothing passes.
+fn own(text: &[u8], set: u32, s: Set) {
+    let f = test_keys::shape_of(s, true);
+    let g = test_keys::shape_of(s, false);
+    let r = shown(text, keyed(set, s, f, g, 0, 0, false, 1, 90, NONE));
+    shown(
+        b"  sign bit 1",
+        keyed(set, s, f, g, 0, 0, true, 1, 90, NONE),
+    );
+    shown(
+        b"  a word fewer than it took",
+        keyed(set, s, f, g, 0, 0, false, 1, less(r.words), NONE),
+    );
+    shown(
+        b"  thresholds 0, one word",
+        keyed(set, s, f, g, 0, 0, false, 0, 1, NONE),
+    );
+}
+
+// The trials are of unequal numbers, of 9 and 5 set places for set 3 and of 7 and 9 for set 4: exchanged, the seventh word would fall to the second of set 3, and
+// the eighth to the first of set 4.
+fn unequal() {
+    show::heading(b"the same, thresholds 1, two words not zero");
+    shown(
+        b"set 3, the seventh and the eighth word 1: the first trial fails",
+        odd(3, Set::III, 6),
+    );
+    shown(
+        b"set 4, the eighth and the ninth word 1: the second trial fails and is tried again",
+        odd(4, Set::IV, 7),
+    );
+}
+
+fn odd(set: u32, s: Set, place: usize) -> Case {
+    let f = test_keys::shape_of(s, true);
+    let g = test_keys::shape_of(s, false);
+    keyed(set, s, f, g, 0, 0, false, 1, 90, place)
+}
+
+fn counts() {
+    show::heading(b"response, other counts, a = (2g + 1) / f");
+    other(b"set 1, f 155 and 0", 1, Set::I, 155, 0, 154, 0);
+    other(b"set 1, f 153 and 0", 1, Set::I, 153, 0, 154, 0);
+    other(b"set 1, g 155 and 0", 1, Set::I, 154, 0, 155, 0);
+    other(b"set 1, g 153 and 0", 1, Set::I, 154, 0, 153, 0);
+    other(b"set 2, f 152 and 1", 2, Set::II, 152, 1, 154, 0);
+    other(b"set 3, g 218 and 15", 3, Set::III, 216, 16, 218, 15);
+    other(b"set 4, f 230 and 32", 4, Set::IV, 230, 32, 231, 31);
+    other(b"set 4, the counts of set 3", 4, Set::IV, 216, 16, 216, 16);
+}
+
+// Several faults at once: the first in the order 4, 5, 15, 6. a is one more than it should be at place 511.
+fn faults() {
+    let f = test_keys::shape_of(Set::I, true);
+    let g = test_keys::shape_of(Set::I, false);
+    let thin = shape(1, 0);
+    show::heading(b"response, several faults");
+    shown(
+        b"a mask of 4097, list, counts, relation",
+        keyed(1, Set::III, thin, g, 1, 4097, false, 1, 90, NONE),
+    );
+    shown(
+        b"list, counts, relation",
+        keyed(1, Set::III, thin, g, 1, 0, false, 1, 90, NONE),
+    );
+    shown(
+        b"counts, relation",
+        keyed(1, Set::I, thin, g, 1, 0, false, 1, 90, NONE),
+    );
+    shown(
+        b"relation",
+        keyed(1, Set::I, f, g, 1, 0, false, 1, 90, NONE),
+    );
+}
+
+fn one(set: u32, threshold: u64, words: usize) -> Case {
+    keyed(
+        set,
+        Set::I,
+        shape(1, 0),
+        shape(0, 0),
+        0,
+        0,
+        false,
+        threshold,
+        words,
+        NONE,
+    )
+}
+
+fn other(
+    text: &[u8],
+    set: u32,
+    s: Set,
+    f_ones: usize,
+    f_twos: usize,
+    g_ones: usize,
+    g_twos: usize,
+) {
     shown(
         text,
+        keyed(
+            set,
+            s,
+            shape(f_ones, f_twos),
+            shape(g_ones, g_twos),
+            0,
+            0,
+            false,
+            1,
+            90,
+            NONE,
+        ),
+    );
+}
+
+fn shape(ones: usize, twos: usize) -> Shape {
+    Shape {
+        ones,
+        twos,
+        turned: false,
+    }
+}
+
+fn keyed(
+    set: u32,
+    list_of: Set,
+    f: Shape,
+    g: Shape,
+    more: u16,
+    mask: i16,
+    sign: bool,
+    threshold: u64,
+    words: usize,
+    odd: usize,
+) -> Case {
+    Case {
         set,
+        list_of,
+        f,
+        g,
+        more,
+        mask,
         sign,
         threshold,
-        lending::first_long(&zeros, count),
-    );
+        words,
+        odd,
+    }
 }
 
-// The trials are of unequal numbers: exchanged, the sixth word would fall to the second, and the trial tried again would take 8 words.
-fn unequal() {
-    show::heading(b"the same, thresholds 1, twenty words, some of them not zero");
-    let mut words = [0u64; 20];
-    words[5] = 1;
-    shown(
-        b"the sixth word 1: it fails the first trial",
-        1,
-        false,
-        1,
-        &words,
-    );
-    words[5] = 0;
-    words[8] = 1;
-    words[9] = 1;
-    shown(
-        b"the ninth and the tenth 1: the second trial fails and is tried again",
-        1,
-        false,
-        1,
-        &words,
-    );
+// Ninety words of 0, but for a 1 at a place and at the next.
+fn words_of(odd: usize) -> [u64; 90]
+    ensures { λ r. ⌜ length r ≡ 90 ⌝ }
+{
+    let mut words = [0u64; 90];
+    if odd < 89 {
+        words[odd] = 1;
+        words[odd + 1] = 1;
+    }
+    words
 }
 
-fn shown(text: &[u8], set: u32, sign: bool, threshold: u64, words: &[u64]) {
+fn less(words: u64) -> usize {
+    if words == 0 { 0 } else { (words - 1) as usize }
+}
+
+fn shown(text: &[u8], c: Case) -> Response {
     let mut z1 = [show::OLD_ENTRY; Set::DIMENSION];
     let mut z2 = [99i8; Set::DIMENSION];
-    let r = responded(set, sign, threshold, words, &mut z1, &mut z2);
+    let r = responded(c, &mut z1, &mut z2);
     let mut dagger = [0i16; Set::DIMENSION];
     vectors::widen(&z2, &mut dagger);
     show::response(text, r, &z1, &dagger);
+    r
 }
 
-fn responded(
-    set: u32,
-    sign: bool,
-    threshold: u64,
-    words: &[u64],
-    z1: &mut [i16],
-    z2: &mut [i8],
-) -> Response {
-    let mut f = [0i8; Set::DIMENSION];
-    let g = [0i8; Set::DIMENSION];
-    let mut a = [0u16; Set::DIMENSION];
-    let y = [0i16; Set::DIMENSION];
+fn responded(c: Case, z1: &mut [i16], z2: &mut [i8]) -> Response {
+    let f = test_keys::polynomial(c.f);
+    let g = test_keys::polynomial(c.g);
+    let mut a = test_keys::public_key(&f, &g);
+    let mut y1 = [0i16; Set::DIMENSION];
+    let y2 = [0i16; Set::DIMENSION];
     let places = rows::places(0, 0);
-    let list = lending::first_whole(&places, Set::I.kappa());
-    let thresholds = [threshold; Set::PLACES];
-    f[0] = 1;
-    a[0] = 1;
+    let s = c.list_of;
+    let list = lending::first_whole(&places, s.kappa());
+    let thresholds = [c.threshold; Set::PLACES];
+    let words = words_of(c.odd);
+    a[511] = std::num::wrapping_add_u16(a[511], c.more);
+    let mask = c.mask;
+    y1[511] = mask;
     bursztok::bursztok_respond(
-        set,
+        c.set,
         &f,
         &g,
         &a,
-        &y,
-        &y,
+        &y1,
+        &y2,
         list,
-        sign,
+        c.sign,
         &thresholds,
-        words,
+        lending::first_long(&words, c.words),
         z1,
         z2,
     )

@@ -2,7 +2,7 @@
 
 use std::fmt;
 
-/// Why a call refused: one case for each number of paper 01 beside 0.
+/// Why a call refused: one case for each number of papers 01 and 02 beside 0.
 #[derive(Clone, Copy, Debug, PartialEq, Eq)]
 pub enum Refusal {
     /// 1
@@ -17,7 +17,7 @@ pub enum Refusal {
     List,
     /// 6
     Relation,
-    /// 7
+    /// 7, which can't occur
     KeyLength,
     /// 8
     Draw,
@@ -33,7 +33,9 @@ pub enum Refusal {
     Header { place: u32 },
     /// 14
     Room,
-    /// No answer of paper 01: another number, or a place where the paper has none.
+    /// 15
+    KeyCounts,
+    /// No answer of the papers: another number, or a place where they have none.
     Unlisted { number: u32, place: u32 },
 }
 
@@ -56,6 +58,7 @@ impl Refusal {
             (12, 0) => Refusal::ListsDiffer,
             (13, place) => Refusal::Header { place },
             (14, 0) => Refusal::Room,
+            (15, 0) => Refusal::KeyCounts,
             (number, place) => Refusal::Unlisted { number, place },
         })
     }
@@ -76,6 +79,7 @@ impl Refusal {
             Refusal::ListsDiffer => 12,
             Refusal::Header { .. } => 13,
             Refusal::Room => 14,
+            Refusal::KeyCounts => 15,
             Refusal::Unlisted { number, .. } => number,
         }
     }
@@ -90,7 +94,7 @@ impl Refusal {
         }
     }
 
-    /// The paper's words for the number.
+    /// The papers' words for the number.
     pub fn meaning(self) -> &'static str {
         match self {
             Refusal::SetAboveFour => "set above 4",
@@ -102,7 +106,7 @@ impl Refusal {
             Refusal::Mask => "mask coefficient outside -4,096 .. 4,096",
             Refusal::List => "list not of the stated form, its count included",
             Refusal::Relation => "key relation doesn't hold",
-            Refusal::KeyLength => "key longer than K",
+            Refusal::KeyLength => "key longer than K: can't occur",
             Refusal::Draw => "rejected by the draw",
             Refusal::Words => "the walk needs a word and none is left",
             Refusal::Entry { .. } => {
@@ -116,7 +120,8 @@ impl Refusal {
                  24, its length"
             }
             Refusal::Room => "writer's output shorter than the total",
-            Refusal::Unlisted { .. } => "no answer of paper 01",
+            Refusal::KeyCounts => "counts wrong",
+            Refusal::Unlisted { .. } => "no answer of the papers",
         }
     }
 }
@@ -159,7 +164,7 @@ mod tests {
             .split(',')
             .map(|line| line.split(" = ").nth(1).unwrap().trim())
             .collect();
-        let wanted: Vec<String> = (0..=14).map(|number| number.to_string()).collect();
+        let wanted: Vec<String> = (0..=15).map(|number| number.to_string()).collect();
         assert_eq!(values, wanted);
         for (name, number) in [
             ("DONE", 0),
@@ -167,13 +172,14 @@ mod tests {
             ("REJECTED", 8),
             ("ENTRY", 10),
             ("HEADER", 13),
+            ("KEY_COUNTS", 15),
         ] {
             assert!(numbers.contains(&format!("BURSZTOK_{name} = {number}")));
         }
     }
 
-    /// "Numbers that come back", word for word.
-    const WORDS: [&str; 14] = [
+    /// "Numbers that come back", word for word, with what paper 02 makes of them.
+    const WORDS: [&str; 15] = [
         "set above 4",
         "a vector, read or written, isn't 512 long, thresholds not 31, or the reader's list \
          buffer not 39",
@@ -181,7 +187,7 @@ mod tests {
         "mask coefficient outside -4,096 .. 4,096",
         "list not of the stated form, its count included",
         "key relation doesn't hold",
-        "key longer than K",
+        "key longer than K: can't occur",
         "rejected by the draw",
         "the walk needs a word and none is left",
         "entry beyond \"largest\", with the first place: z1 is 0 .. 511, z2 dagger 512 .. 1023",
@@ -190,6 +196,7 @@ mod tests {
         "header malformed, with the first byte of the first wrong field; shorter than 24, its \
          length",
         "writer's output shorter than the total",
+        "counts wrong",
     ];
 
     #[test]
@@ -199,8 +206,8 @@ mod tests {
             assert_eq!(refusal.meaning(), words);
         }
         assert_eq!(
-            Refusal::outcome(15, 0).unwrap_err().meaning(),
-            "no answer of paper 01"
+            Refusal::outcome(16, 0).unwrap_err().meaning(),
+            "no answer of the papers"
         );
         let entry = Refusal::Entry { place: 700 };
         assert_eq!(

@@ -139,7 +139,8 @@ mod tests {
     #[test]
     fn every_difference_is_noticed() {
         let mut noise = Noise::new(82);
-        let input = right_input(1, &keys::thin(), &mut noise);
+        let key = keys::published(Set::I, &mut noise);
+        let input = right_input(1, &key, &mut noise);
         let right = Left::by(run, Call::Read, &input, 7);
         assert_eq!(difference(&right, &right), None);
         let changes: [fn(&mut Left); 12] = [

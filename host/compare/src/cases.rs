@@ -1,7 +1,7 @@
-//! The cases of a run. Case numbers below `Plan::planned()` go through every call, set and pair of
-//! faults, every header bit, every length of a record, every count of words and every step of the
-//! draw, and masks that make the dropped digits cost their figure; those above are drawn at random.
-//! A case is made from the run's seed and its number alone.
+//! The cases of a run. Case numbers below `Plan::planned()` go through every edge of a key's counts,
+//! every call, set and pair of faults, every header bit, every length of a record, every count of
+//! words and every step of the draw, and masks that make the dropped digits cost their figure; those
+//! above are drawn at random. A case is made from the run's seed and its number alone.
 
 use crate::buffers::{difference, Buffers, Left};
 use crate::costs::{steer, Cost};
@@ -10,6 +10,7 @@ use crate::inputs::right_input;
 use crate::{library, walks};
 use second::record::{total, HEADER};
 use second::testing::calls::{self, Call, Input};
+use second::testing::edges::Edge;
 use second::testing::keys::{self, Key};
 use second::testing::noise::Noise;
 use second::Set;
@@ -22,6 +23,8 @@ const CASES_PER_KEY: u64 = 16;
 
 #[derive(Clone, Copy, Debug)]
 enum Planned {
+    /// A call with a key whose counts are off, and which holds the relation.
+    Counts { call: Call, set: u32, edge: Edge },
     /// A call with two faults, or one where both are the same.
     Pair {
         call: Call,
@@ -63,6 +66,10 @@ impl Plan {
     pub fn new(seed: u64) -> Plan {
         let mut planned = Vec::new();
         for set in SET_NUMBERS {
+            for call in [Call::KeyTest, Call::Respond] {
+                let edges = Edge::all(set_numbered(set)).into_iter();
+                planned.extend(edges.map(|edge| Planned::Counts { call, set, edge }));
+            }
             for call in Call::ALL {
                 let count = faults_of(call).len();
                 for first in 0..count {
@@ -94,7 +101,7 @@ impl Plan {
     /// The planned cases that run this call.
     pub fn about(&self, call: Call) -> Vec<u64> {
         let about = |planned: &Planned| match planned {
-            Planned::Pair { call: run, .. } => *run == call,
+            Planned::Counts { call: run, .. } | Planned::Pair { call: run, .. } => *run == call,
             Planned::HeaderByte { .. } | Planned::RecordLengths { .. } => {
                 Call::ON_RECORD.contains(&call)
             }
@@ -121,6 +128,12 @@ impl Plan {
     fn run_planned(&mut self, number: u64, planned: Planned, noise: &mut Noise) -> Found {
         let mut found = Found::default();
         match planned {
+            Planned::Counts { call, set, edge } => {
+                found.story = format!("{}, set {set}: {}", call.name(), edge.name());
+                let key = keys::published(set_numbered(set), noise);
+                let key = edge.of(set_numbered(set), &key, noise);
+                found.compare(call, &right_input(set, &key, noise));
+            }
             Planned::Pair { call, set, faults } => {
                 let mut input = self.input(number, set, noise);
                 let all = faults_of(call);
@@ -181,7 +194,7 @@ impl Plan {
             Planned::Figure { set, up } => {
                 let way = if up { "up" } else { "down" };
                 found.story = format!("masks steered {way} to the figure, set {set}");
-                let key = keys::published(Set::asked(set).expect("a set number"), noise);
+                let key = keys::published(set_numbered(set), noise);
                 let mut input = right_input(set, &key, noise);
                 steer(&mut input, up, noise);
                 found.compare(Call::Respond, &input);
@@ -237,12 +250,16 @@ impl Plan {
         }
         let seed = self.seed;
         let key = self.keys.entry((set, slot)).or_insert_with(|| {
-            let parameters = Set::asked(set).expect("a set number");
             let mut noise = Noise::part(seed ^ u64::from(set), u64::MAX - slot);
-            keys::any(parameters, &mut noise)
+            keys::any(set_numbered(set), &mut noise)
         });
         right_input(set, key, noise)
     }
+}
+
+/// The set of one of `SET_NUMBERS`.
+fn set_numbered(number: u32) -> Set {
+    Set::asked(number).expect("a set number")
 }
 
 impl Found {
@@ -253,18 +270,24 @@ impl Found {
         let library = Left::by(library::run, call, input, fill);
         let second = Left::by(calls::run, call, input, fill);
         let number = library.number();
-        self.answers.push((call, second.number()));
+        self.answer(call, second.number());
         if let Some(what) = difference(&library, &second) {
             self.fail(call, what);
         } else if number != 0 && library.buffers != Buffers::new(input, fill) {
             self.fail(call, "a refusal wrote to an output buffer");
-        } else if !call.numbers().contains(&number) {
-            self.fail(call, format!("{number} is no number of the call"));
         }
         if call == Call::Respond && (number, second.number()) == (0, 0) {
             self.weigh(Cost::of(input, library.buffers.z2_dagger()));
         }
         library
+    }
+
+    /// Counts an answer. A number that the call can't give, 7 among them, is a failure.
+    pub fn answer(&mut self, call: Call, number: u32) {
+        self.answers.push((call, number));
+        if !call.numbers().contains(&number) {
+            self.fail(call, format!("{number} came back, which can't occur"));
+        }
     }
 
     /// What a response cost, which is at most the figure.

@@ -11,7 +11,7 @@ use second::Set;
 /// More words than any walk takes whose trials all succeed: two trials of at most 31 places.
 const PASSING_WORDS: usize = 62;
 
-/// An input on which every call is done.
+/// An input on which every call is done, where the key passes the key test.
 pub fn right_input(number: u32, key: &Key, noise: &mut Noise) -> Input {
     let set = Set::asked(number).expect("a set to start from");
     let list = noise.list(set);

@@ -182,6 +182,19 @@ mod tests {
     }
 
     #[test]
+    fn a_number_that_cannot_occur_fails_the_run() {
+        for call in [Call::KeyTest, Call::Respond] {
+            let mut tally = without(None);
+            let mut found = Found::default();
+            found.answer(call, 7);
+            tally.add(&found);
+            let verdict = tally.verdict();
+            assert_eq!((verdict.failed, tally.failing_cases()), (1, 1));
+            assert_eq!(verdict.passed, without(None).verdict().passed);
+        }
+    }
+
+    #[test]
     fn the_costs_are_told_for_each_set() {
         let mut tally = Tally::default();
         for range in [(-400, 17), (-3, 511), (-511, 500)] {

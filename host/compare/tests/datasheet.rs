@@ -1,7 +1,7 @@
 //! The tables of docs/DATASHEET.md say what the library, the second program, docs/CALLS.md and
-//! docs/PERFORMANCE.md say; its version and the header's figures are the same.
+//! docs/PERFORMANCE.md say; its version, and the header's table and figures, are the same.
 
-use second::parameters::N;
+use second::parameters::{KeyCounts, N};
 use second::Set;
 use std::fs;
 
@@ -25,7 +25,7 @@ type Number = fn(Set) -> usize;
 
 #[test]
 fn the_sets_are_those_of_the_library() {
-    let wanted: [(&str, Number); 8] = [
+    let wanted: [(&str, Number); 11] = [
         ("what the dropped digits cost, at most", |set| {
             set.figure() as usize
         }),
@@ -34,6 +34,15 @@ fn the_sets_are_those_of_the_library() {
         }),
         ("d, the dropped binary digits", |set| set.d() as usize),
         ("p, the number of steps", |set| set.p() as usize),
+        ("d1, the coefficients of 1 or -1 in f, and in g", |set| {
+            set.key_counts().ones
+        }),
+        ("d2, those of 2 or -2; the rest is zero", |set| {
+            set.key_counts().twos
+        }),
+        ("K, the squared length of a key, at most", |set| {
+            set.k() as usize
+        }),
         ("public key, bytes", |_| size_of::<[u16; N]>()),
         ("secret key, bytes", |_| size_of::<[[i8; N]; 2]>()),
         ("signature, bytes", |set| {
@@ -89,6 +98,27 @@ fn the_version_is_the_headers() {
         .find_map(|line| line.strip_prefix("#define BURSZTOK_VERSION "));
     let version = version.expect("the header has a version").trim_matches('"');
     assert!(text("docs/DATASHEET.md").contains(&format!("\nBursztok {version}: ")));
+}
+
+#[test]
+fn the_headers_table_has_the_numbers_of_the_sets() {
+    let header = text("include/bursztok.h");
+    let table = header.split(" *    set  kappa ").nth(1);
+    let rows = table.expect("the header has the table").lines().skip(1);
+    for (set, row) in Set::ALL.into_iter().zip(rows) {
+        let cells = row.trim_start_matches(" *").split_whitespace();
+        let told: Vec<i64> = cells
+            .map(|cell| cell.replace(',', "").parse().expect("a number"))
+            .collect();
+        let KeyCounts { ones, twos } = set.key_counts();
+        let record_bytes = bursztok::record_bytes(set.number());
+        let sizes = [set.kappa(), ones, twos, record_bytes].map(|size| size as i64);
+        let [kappa, d1, d2, record_bytes] = sizes;
+        let (number, d, p) = (set.number().into(), set.d().into(), set.p());
+        let limits = [set.largest(), set.b2_squared(), set.k()];
+        let wanted = [&[number, kappa, d, p], &limits[..], &[d1, d2, record_bytes]];
+        assert_eq!(told, wanted.concat());
+    }
 }
 
 #[test]

@@ -6,6 +6,8 @@ use crate::header::wrong_field;
 use crate::lent::Vector;
 use crate::record::Record;
 use bursztok::Refusal;
+use second::parameters::KeyCounts;
+use second::Set;
 use std::ops::RangeInclusive;
 
 /// Adds the causes of a refusal that the lent vectors show.
@@ -43,10 +45,13 @@ pub fn explain(refused: &mut Refused, set: u32, vectors: &[Vector]) {
             let (a, secret) = (sources(&["a"]), sources(&["f", "g"]));
             causes.push(format!("{a} is not the public key of {secret}"));
         }
-        Refusal::KeyLength => {
-            let length: i128 = named(&["f", "g"]).iter().map(|v| squares(v)).sum();
-            let secret = sources(&["f", "g"]);
-            causes.push(format!("{secret}: the squared length is {length}"));
+        Refusal::KeyCounts => {
+            let secrets = named(&["f", "g"]);
+            causes.extend(
+                secrets
+                    .iter()
+                    .filter_map(|secret| wrong_counts(secret, set)),
+            );
         }
         Refusal::Words => {
             for words in named(&["words"]) {
@@ -145,15 +150,23 @@ fn difference(list: &Vector, hashed: &Vector) -> Option<String> {
     ))
 }
 
-/// The squares of f, or of 2g + 1.
-fn squares(vector: &Vector) -> i128 {
-    let doubled = vector.name == "g";
-    let numbered = vector.numbers.iter().enumerate();
-    let entry = |(place, number): (usize, &i128)| match doubled {
-        true => 2 * number + i128::from(place == 0),
-        false => *number,
+/// The counts of f or g, where they are not the set's. No call tells those, so the second program's
+/// sets are asked for them.
+fn wrong_counts(secret: &Vector, set: u32) -> Option<String> {
+    let count = |size: u128| {
+        let sized = secret.numbers.iter().filter(|n| n.unsigned_abs() == size);
+        sized.count()
     };
-    numbered.map(entry).map(|entry| entry * entry).sum()
+    let (ones, twos) = (count(1), count(2));
+    let wanted = Set::asked(set).ok()?.key_counts();
+    let ending = if ones == 1 { "" } else { "s" };
+    (KeyCounts { ones, twos } != wanted).then(|| {
+        format!(
+            "{}: {ones} coefficient{ending} of 1 or -1 and {twos} of 2 or -2, set {set} wants {} \
+             and {}",
+            secret.source, wanted.ones, wanted.twos
+        )
+    })
 }
 
 #[cfg(test)]
@@ -194,10 +207,6 @@ mod tests {
         let mask = causes(4, 0, &lent("y2", &[-4097]));
         assert_eq!(mask, ["y2.txt: place 0 is -4097, -4096 to 4096 expected"]);
         assert_eq!(
-            causes(7, 0, &lent("g", &[1, -1])),
-            ["g.txt: the squared length is 13"]
-        );
-        assert_eq!(
             causes(9, 0, &lent("words", &[])),
             ["words.txt holds 0 words"]
         );
@@ -207,6 +216,28 @@ mod tests {
         );
         assert_eq!(causes(10, 512, &lent("z2", &[3])), ["z2.txt: place 0 is 3"]);
         assert!(causes(10, 512, &lent("z1", &[3])).is_empty());
+    }
+
+    #[test]
+    fn the_polynomial_with_wrong_counts_is_named() {
+        let right: Vec<i16> = (0..512).map(|i| i16::from(i < 154)).collect();
+        let mut other = right.clone();
+        other[0] = 0;
+        let both = |f: &[i16], g: &[i16]| {
+            let mut lent = lent("f", f);
+            lent.add("g", "g.txt".to_string(), g, Some(512));
+            causes(15, 0, &lent)
+        };
+        let fewer = "153 coefficients of 1 or -1 and 0 of 2 or -2, set 1 wants 154 and 0";
+        let wanted = ["f", "g"].map(|name| format!("{name}.txt: {fewer}"));
+        assert_eq!(both(&other, &right), wanted[..1]);
+        assert_eq!(both(&right, &other), wanted[1..]);
+        assert_eq!(both(&other, &other), wanted);
+        other[0] = -2;
+        let two = "g.txt: 153 coefficients of 1 or -1 and 1 of 2 or -2, set 1 wants 154 and 0";
+        assert_eq!(both(&right, &other), [two]);
+        let one = "f.txt: 1 coefficient of 1 or -1 and 0 of 2 or -2, set 1 wants 154 and 0";
+        assert_eq!(causes(15, 0, &lent("f", &[0, -1])), [one]);
     }
 
     #[test]

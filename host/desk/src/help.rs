@@ -43,8 +43,9 @@ only; everything that signs and checks is the library's.
 pub const KEY_TEST: &str = "\
 bursztok key-test --set N (--folder DIR | --f FILE --g FILE --a FILE) [--json]
 
-Tests a key: ranges, squared length at most K, a times f = 2g + 1 modulo 12289.
-Refusals in order: 1, 2, 3, 7, 6.
+Tests a key: ranges; in f and in g the set's counts of 1 or -1 and of 2 or -2, and with them a
+squared length of at most K; a times f = 2g + 1 modulo 12289.
+Refusals in order: 1, 2, 3, 15, 7, 6; 7 can't occur.
 
   --set N             the parameter set
   --folder DIR        holds f.txt, g.txt and a.txt
@@ -75,7 +76,8 @@ pub const SIGN: &str = "\
 bursztok sign --set N (--folder DIR | --f FILE --g FILE ..) --record FILE [--json]
 
 Answers a list for the masks that it was hashed from, and writes the record.
-Refusals in order: 1, 2, 3, 4, 5, 7, 6, then 8 or 9 as the walk ends, then 10, 11.
+Refusals in order: 1, 2, 3, 4, 5, 15, 7, 6, then 8 or 9 as the walk ends, then 10, 11; 7 can't
+occur.
 With 8, 10 or 11 start again with new masks; with 9 lend more words.
 
   --set N          the parameter set

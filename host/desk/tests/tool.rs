@@ -162,7 +162,7 @@ fn a_check_without_a_hash_is_no_check() {
 #[test]
 fn refusals_end_with_number_place_and_meaning() {
     let folder = Folder::new("refusals");
-    files_of(Set::II, &folder);
+    let key = files_of(Set::II, &folder).key;
     let (path, record) = (folder.path(""), folder.path("record"));
     let key_test = |set: &str, said: &str| {
         expect(&["key-test", "--set", set, "--folder", &path], 1, said);
@@ -186,14 +186,41 @@ fn refusals_end_with_number_place_and_meaning() {
     expect(&sign, 1, "g.txt holds 511 numbers, 512 expected");
     folder.put("thresholds", &[0; 30]);
     expect(&sign, 1, "thresholds.txt holds 30 numbers, 31 expected");
-    folder.put("g", &[2; 512]);
-    key_test("2", "number 7, place 0: key longer than K");
     let mut g = [0; 512];
     g[500] = -3;
     folder.put("g", &g);
     key_test("2", "g.txt: place 500 is -3, -2 to 2 expected");
-    folder.put("g", &[0; 512]);
+    let turned: Vec<i8> = key.g.iter().map(|entry| -entry).collect();
+    folder.put("g", &turned);
     key_test("2", "a.txt is not the public key of ");
+}
+
+#[test]
+fn wrong_counts_are_told_with_their_files() {
+    let folder = Folder::new("counts");
+    let key = files_of(Set::III, &folder).key;
+    let (path, record) = (folder.path(""), folder.path("record"));
+    let key_test = ["key-test", "--set", "3", "--folder", &path];
+    let sign = ["sign", "--set", "3", "--folder", &path, "--record", &record];
+    let counted = |name: &str, said: &str| {
+        let file = folder.path(name);
+        format!("{file}: {said} of 2 or -2, set 3 wants 216 and 16\n")
+    };
+    let of_g = counted("g.txt", "0 coefficients of 1 or -1 and 512");
+    folder.put("g", &[2; 512]);
+    for words in [&key_test[..], &sign] {
+        expect(words, 1, "number 15, place 0: counts wrong");
+        expect(words, 1, &of_g);
+        assert!(!run(words).2.contains("f.txt"));
+    }
+    expect(&sign, 1, "counts wrong (0 words taken)");
+    let mut f = key.f;
+    let two = f.iter().position(|entry| entry.abs() == 2).unwrap();
+    f[two] = 1;
+    folder.put("f", &f);
+    let of_f = counted("f.txt", "217 coefficients of 1 or -1 and 15");
+    expect(&key_test, 1, &format!("{of_f}  {of_g}"));
+    assert!(!Path::new(&record).exists());
 }
 
 #[test]

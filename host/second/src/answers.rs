@@ -21,7 +21,7 @@ impl Refusal {
     pub const LIST: Refusal = Refusal::at(5, 0);
     /// The key relation does not hold.
     pub const RELATION: Refusal = Refusal::at(6, 0);
-    /// The key is longer than K.
+    /// The key is longer than K. It can't occur: where the counts are right, no key is.
     pub const KEY_LENGTH: Refusal = Refusal::at(7, 0);
     /// Rejected by the draw.
     pub const DRAW: Refusal = Refusal::at(8, 0);
@@ -33,6 +33,8 @@ impl Refusal {
     pub const LISTS_DIFFER: Refusal = Refusal::at(12, 0);
     /// The writer's output is shorter than the total.
     pub const ROOM: Refusal = Refusal::at(14, 0);
+    /// The counts of f or of g are wrong.
+    pub const COUNTS: Refusal = Refusal::at(15, 0);
 
     /// An entry is beyond "largest": z1 is places 0 .. 511, z2 dagger 512 .. 1023.
     pub const fn entry(place: usize) -> Refusal {

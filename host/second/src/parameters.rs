@@ -13,6 +13,13 @@ pub const THRESHOLDS: usize = 31;
 /// The length of the reader's list buffer: the largest kappa.
 pub const LIST_BUFFER: usize = 39;
 
+/// How many coefficients of a polynomial are 1 or -1, and how many are 2 or -2.
+#[derive(Clone, Copy, Debug, PartialEq, Eq)]
+pub struct KeyCounts {
+    pub ones: usize,
+    pub twos: usize,
+}
+
 #[derive(Clone, Copy, Debug, PartialEq, Eq)]
 pub enum Set {
     I,
@@ -116,6 +123,16 @@ impl Set {
             Set::III => 1409,
             Set::IV => 1784,
         }
+    }
+
+    /// The counts that f and g each have, d1 and d2 of paper 02 (C-12). d itself is another number.
+    pub fn key_counts(self) -> KeyCounts {
+        let (ones, twos) = match self {
+            Set::I | Set::II => (154, 0),
+            Set::III => (216, 16),
+            Set::IV => (231, 31),
+        };
+        KeyCounts { ones, twos }
     }
 }
 

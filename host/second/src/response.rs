@@ -3,16 +3,14 @@
 use crate::answers::{Refusal, Response};
 use crate::commitment::{require_masks, sums};
 use crate::draw::draw;
-use crate::key::{
-    require_key_length, require_public_range, require_relation, require_secret_range, s1, s2,
-};
+use crate::key::{require_proper, require_public_range, require_secret_range, s1, s2};
 use crate::length_rule::length_rule;
 use crate::parameters::{require_lengths, require_vectors, Set, N, THRESHOLDS};
 use crate::ring::{
     centred, column, inner_product, modulo_2q, squared_length, upper_digits, whole, Whole,
 };
 
-/// The response: 1, 2, 3, 4, 5, 7, 6, then 8 or 9 as the walk ends, then 10, 11.
+/// The response: 1, 2, 3, 4, 5, 15, 7, 6, then 8 or 9 as the walk ends, then 10, 11.
 #[allow(clippy::too_many_arguments)]
 pub fn respond(
     set: u32,
@@ -37,8 +35,7 @@ pub fn respond(
         require_public_range(a)?;
         require_masks(y1, y2)?;
         require_list(set, list)?;
-        require_key_length(set, f, g)?;
-        require_relation(f, g, a)?;
+        require_proper(set, f, g, a)?;
         Ok(set)
     });
     let set = match admitted {

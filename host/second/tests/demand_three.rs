@@ -7,17 +7,12 @@ use second::ring::{modulo_q, product, squared_length, whole};
 use second::testing::keys::{self, Key};
 use second::testing::noise::Noise;
 use second::testing::sheet::{self, Signature, Try};
-use second::{compare, key_test, rebuild, Set};
+use second::{compare, rebuild, Set};
 
 /// Keys of every kind that the key test admits.
 fn keys_of(set: Set, noise: &mut Noise) -> Vec<Key> {
-    let mut all = vec![
-        keys::thin(),
-        keys::of_squared_length(set.k(), noise),
-        keys::of_squared_length(40, noise),
-        keys::without_inverse(set, noise),
-    ];
-    all.extend((0..6).map(|_| keys::published(set, noise)));
+    let mut all = vec![keys::at_k(set, noise), keys::without_inverse(set, noise)];
+    all.extend((0..8).map(|_| keys::published(set, noise)));
     all
 }
 
@@ -31,51 +26,6 @@ fn require_rebuilt(set: Set, key: &Key, signature: &Signature, committed: &[u16]
     let outcome = rebuild(set.number(), &key.a, z1, z2_dagger, list, &mut rebuilt);
     assert_eq!(outcome, Ok(()));
     assert_eq!(rebuilt, committed);
-}
-
-#[test]
-fn made_keys_pass_the_key_test() {
-    let mut noise = Noise::new(31);
-    for set in Set::ALL {
-        for key in keys_of(set, &mut noise) {
-            assert_eq!(key_test(set.number(), &key.f, &key.g, &key.a), Ok(()));
-        }
-        let key = keys::published(set, &mut noise);
-        let (ones, twos) = keys::published_counts(set);
-        for vector in [&key.f, &key.g] {
-            let count = |size: i8| vector.iter().filter(|entry| entry.abs() == size).count();
-            assert_eq!((count(1), count(2)), (ones, twos));
-        }
-    }
-}
-
-#[test]
-fn published_counts_meet_k_where_g_starts_with_its_largest() {
-    for set in Set::ALL {
-        let (ones, twos) = keys::published_counts(set);
-        let first = if twos > 0 { 2 } else { 1 };
-        let squares = (ones + 4 * twos) as i64;
-        assert_eq!(squares + 4 * squares + 4 * first + 1, set.k());
-    }
-}
-
-#[test]
-fn an_inverse_is_one() {
-    let mut noise = Noise::new(32);
-    let key = keys::published(Set::IV, &mut noise);
-    let f = whole(&key.f);
-    let inverse = keys::inverse(&f).unwrap();
-    let mut one = vec![0; N];
-    one[0] = 1;
-    assert_eq!(modulo_q(&product(&f, &inverse)), one);
-}
-
-#[test]
-fn a_key_without_inverse_may_hold_the_relation() {
-    let mut noise = Noise::new(33);
-    let key = keys::without_inverse(Set::II, &mut noise);
-    assert_eq!(keys::inverse(&whole(&key.f)), None);
-    assert_eq!(key_test(2, &key.f, &key.g, &key.a), Ok(()));
 }
 
 #[test]

@@ -1,19 +1,51 @@
 //! "Ways it has been got wrong": each way changes an answer here.
 
+use second::key::{s1, s2};
 use second::parameters::{N, Q};
-use second::ring::{modulo_2q, product, upper_digits};
-use second::testing::keys;
+use second::response::sign_choices;
+use second::ring::{column, inner_product, modulo_2q, modulo_q, product, upper_digits, whole};
+use second::testing::euclid::inverse;
+use second::testing::keys::{self, Key};
+use second::testing::noise::Noise;
 use second::{commitment, rebuild, respond, Refusal, Set};
 
-/// With a = 1 at place 0 and y1 = 0, u is y2 modulo 24578.
+/// The public key a = 1.
+fn one() -> Vec<u16> {
+    let mut a = vec![0; N];
+    a[0] = 1;
+    a
+}
+
+/// With a = 1, u is 12288 y1 + y2 modulo 24578.
 fn committed_to(set: Set, y1_first: i16, y2_first: i16) -> u16 {
-    let key = keys::thin();
     let (mut y1, mut y2) = (vec![0; N], vec![0; N]);
     y1[0] = y1_first;
     y2[0] = y2_first;
     let mut out = vec![0; N];
-    commitment(set.number(), &key.a, &y1, &y2, &mut out).unwrap();
+    commitment(set.number(), &one(), &y1, &y2, &mut out).unwrap();
     out[0]
+}
+
+/// The z1 and z2 dagger that set 1 gives out for y1 = 0 and sign bit 0, with thresholds that every
+/// word passes.
+fn given_out(key: &Key, y2: &[i16], list: &[u16]) -> (Vec<i16>, Vec<i8>) {
+    let (mut z1, mut z2_dagger) = (vec![0; N], vec![0; N]);
+    let response = respond(
+        1,
+        &key.f,
+        &key.g,
+        &key.a,
+        &[0; N],
+        y2,
+        list,
+        false,
+        &[1; 31],
+        &[0; 62],
+        &mut z1,
+        &mut z2_dagger,
+    );
+    assert_eq!(response.outcome, Ok(()));
+    (z1, z2_dagger)
 }
 
 #[test]
@@ -34,29 +66,41 @@ fn a_negative_sum_is_reduced_before_it_is_rounded() {
 
 #[test]
 fn a_zero_inner_product_still_chooses() {
-    // Columns of f = 1, g = 0 are orthogonal: every inner product is zero, every place is taken.
-    let key = keys::thin();
-    let list: Vec<u16> = (0..23).map(|i| 22 * i).collect();
-    let (mut z1, mut z2_dagger) = (vec![0; N], vec![0; N]);
-    let response = respond(
-        1,
-        &key.f,
-        &key.g,
-        &key.a,
-        &[0; N],
-        &[0; N],
-        &list,
-        true,
-        &[1; 31],
-        &[0; 12],
-        &mut z1,
-        &mut z2_dagger,
-    );
-    assert_eq!(response.outcome, Ok(()));
-    let expected: Vec<i16> = (0..N as u16)
-        .map(|i| i16::from(list.contains(&i)))
-        .collect();
-    assert_eq!(z1, expected);
+    let mut noise = Noise::new(21);
+    let key = keys::published(Set::I, &mut noise);
+    let (s1, s2) = (s1(&key.f), s2(&key.g));
+    // The places of a list at which the inner product is zero, beside its first.
+    let zeros = |list: &[u16]| -> Vec<u16> {
+        let zero = |&at: &usize| {
+            let (v1, v2) = sign_choices(&s1, &s2, &list[..at]);
+            let place = usize::from(list[at]);
+            inner_product(&v1, &column(&s1, place)) + inner_product(&v2, &column(&s2, place)) == 0
+        };
+        let found = (1..list.len()).filter(zero);
+        found.map(|at| list[at]).collect()
+    };
+    let (list, zeros) = loop {
+        let list = noise.list(Set::I);
+        let zeros = zeros(&list);
+        if !zeros.is_empty() {
+            break (list, zeros);
+        }
+    };
+    // z1 is f times c', since the masks are zero.
+    let (z1, _) = given_out(&key, &[0; N], &list);
+    let signs = modulo_q(&product(&whole(&z1), &inverse(&s1).unwrap()));
+    for (place, sign) in (0..).zip(&signs) {
+        let admitted: &[i64] = if list.contains(&place) {
+            &[1, Q - 1]
+        } else {
+            &[0]
+        };
+        assert!(admitted.contains(sign), "{sign} at {place}");
+    }
+    // The column is subtracted.
+    for place in zeros {
+        assert_eq!(signs[usize::from(place)], Q - 1);
+    }
 }
 
 #[test]
@@ -79,27 +123,13 @@ fn z2_dagger_is_compared_after_the_factor() {
 
 #[test]
 fn z2_dagger_is_compared_in_its_centred_form() {
-    // u = 23978 has the upper digits 23 and u - z2 = 0 has 0: the difference is -1, not 23.
-    let key = keys::thin();
+    // u = 23978 has the upper digits 23, and u - z2, which is about 0, has 0: the difference is -1,
+    // not 23.
+    let key = keys::published(Set::I, &mut Noise::new(22));
     let mut y2 = vec![0; N];
     y2[100] = -600;
     let list: Vec<u16> = (0..23).collect();
-    let (mut z1, mut z2_dagger) = (vec![0; N], vec![0; N]);
-    let response = respond(
-        1,
-        &key.f,
-        &key.g,
-        &key.a,
-        &[0; N],
-        &y2,
-        &list,
-        false,
-        &[1; 31],
-        &[0; 12],
-        &mut z1,
-        &mut z2_dagger,
-    );
-    assert_eq!(response.outcome, Ok(()));
+    let (_, z2_dagger) = given_out(&key, &y2, &list);
     assert_eq!(z2_dagger[100], -1);
 }
 
@@ -107,12 +137,11 @@ fn z2_dagger_is_compared_in_its_centred_form() {
 fn a_listed_place_adds_q() {
     // With a = 1, z1 of -511 gives t = 11778, 12288 t = 12800 modulo 24578, and 12800 + 12289
     // reduces to 511; z1 of -513 leads to 513. Unlisted they lead to 12800 and 12802.
-    let key = keys::thin();
     let mut z1 = vec![0; N];
     (z1[0], z1[1], z1[400], z1[401]) = (-511, -513, -511, -513);
     let list: Vec<u16> = (0..23).collect();
     let mut out = vec![0; N];
-    rebuild(1, &key.a, &z1, &[0; N], &list, &mut out).unwrap();
+    rebuild(1, &one(), &z1, &[0; N], &list, &mut out).unwrap();
     assert_eq!([out[0], out[1], out[400], out[401]], [0, 1, 13, 13]);
 }
 

@@ -1,10 +1,13 @@
-//! "Reference points" and the tables of paper 01, and the rests beside them that paper 02 asks for.
+//! "Reference points" and the tables of paper 01; what paper 02 makes of them, and the rests beside
+//! them.
 
-use second::commitment::doubled_zeta_times;
-use second::parameters::N;
+use second::commitment::{doubled_zeta_times, sums};
+use second::draw::draw;
+use second::key::{s1, s2};
+use second::parameters::{KeyCounts, N};
 use second::record::total;
-use second::response::{sign_choices, trials};
-use second::ring::{centred, modulo_2q, rest, squared_length, upper_digits, whole};
+use second::response::{dropped_digits, shifted, sign_choices, trials};
+use second::ring::{centred, modulo_2q, rest, squared_length, upper_digits, Whole};
 use second::testing::keys;
 use second::{
     commitment, commitment_with_rests, key_test, rebuild, respond, write, Refusal, Response, Set,
@@ -32,6 +35,11 @@ fn the_table_of_parameters() {
     ];
     assert_eq!(rows, table);
     assert_eq!(Set::ALL.map(total), [1606, 1606, 1620, 1638]);
+    let counts = Set::ALL.map(|set| {
+        let KeyCounts { ones, twos } = set.key_counts();
+        (ones, twos)
+    });
+    assert_eq!(counts, [(154, 0), (154, 0), (216, 16), (231, 31)]);
 }
 
 #[test]
@@ -78,13 +86,14 @@ fn rests_of_the_table() {
 
 #[test]
 fn a_commitment_has_the_rests_of_the_table() {
-    let key = keys::thin();
+    let mut a = vec![0; N];
+    a[0] = 1;
     let (mut y1, mut y2) = (vec![0; N], vec![0; N]);
     // Sums 511, 512 and 24577; and 12288 * 2 + 513 = 25089, which reduces to 511.
     y2[..4].copy_from_slice(&[511, 512, -1, 513]);
     y1[3] = 2;
     let (mut digits, mut rests) = (vec![7; N], vec![7; N]);
-    let outcome = commitment_with_rests(1, &key.a, &y1, &y2, &mut digits, &mut rests);
+    let outcome = commitment_with_rests(1, &a, &y1, &y2, &mut digits, &mut rests);
     assert_eq!(outcome, Ok(()));
     assert_eq!(digits[..5], [0, 1, 0, 0, 0]);
     assert_eq!(rests[..5], [511, -512, 1, 511, 0]);
@@ -109,93 +118,98 @@ fn twice_zeta_modulo_24578() {
     assert_eq!((18433 * (12289 - 2)) % 24578, 1);
 }
 
-/// Set 1, f = 1, g = 0, a = 1, masks zero, list 0 .. 22, sign bit 0.
-fn thin_response(thresholds: u64, words: &[u64], z1: &mut [i16], z2_dagger: &mut [i8]) -> Response {
+/// The list of 01's reference point: set 1, f = 1, g = 0, a = 1, masks zero, list 0 .. 22, sign
+/// bit 0.
+fn first_places() -> Vec<u16> {
+    (0..23).collect()
+}
+
+#[test]
+fn the_thin_key_is_refused() {
     let key = keys::thin();
-    let list: Vec<u16> = (0..23).collect();
-    respond(
-        1,
-        &key.f,
-        &key.g,
-        &key.a,
-        &[0; N],
-        &[0; N],
-        &list,
-        false,
-        &[thresholds; 31],
-        words,
-        z1,
-        z2_dagger,
-    )
+    for (set, words) in [(1, 12), (0, 12), (1, 0)] {
+        let tested = key_test(set, &key.f, &key.g, &key.a);
+        assert_eq!(tested, Err(Refusal::COUNTS));
+        let (mut z1, mut z2_dagger) = (vec![77; N], vec![77; N]);
+        let response = respond(
+            set,
+            &key.f,
+            &key.g,
+            &key.a,
+            &[0; N],
+            &[0; N],
+            &first_places(),
+            false,
+            &[1; 31],
+            &vec![0; words],
+            &mut z1,
+            &mut z2_dagger,
+        );
+        let refused = Response {
+            outcome: Err(Refusal::COUNTS),
+            words: 0,
+        };
+        assert_eq!(response, refused);
+        assert_eq!((z1, z2_dagger), (vec![77; N], vec![77; N]));
+    }
+}
+
+/// v1, v2, z1 and z2 of the reference point.
+fn thin_sums() -> [Whole; 4] {
+    let key = keys::thin();
+    let (v1, v2) = sign_choices(&s1(&key.f), &s2(&key.g), &first_places());
+    let (z1, z2) = (shifted(&[0; N], &v1, false), shifted(&[0; N], &v2, false));
+    [v1, v2, z1, z2]
+}
+
+/// The numbers that its draw tries.
+fn thin_trials() -> (i64, i64) {
+    let [v1, v2, z1, z2] = thin_sums();
+    trials(Set::I, &v1, &v2, &z1, &z2)
 }
 
 #[test]
 fn the_thin_key_and_its_trials() {
-    let key = keys::thin();
-    assert_eq!(key_test(1, &key.f, &key.g, &key.a), Ok(()));
-    let list: Vec<u16> = (0..23).collect();
-    let s: Vec<i64> = whole(&key.f);
-    let (v1, v2) = sign_choices(&s, &s, &list);
-    let expected: Vec<i64> = (0..N).map(|i| if i < 23 { -1 } else { 0 }).collect();
-    assert_eq!(v1, expected);
-    assert_eq!(v2, expected);
+    let expected: Whole = (0..N).map(|i| if i < 23 { -1 } else { 0 }).collect();
+    for sums in thin_sums() {
+        assert_eq!(sums, expected);
+    }
+    let [v1, v2, ..] = thin_sums();
     assert_eq!(squared_length(&v1) + squared_length(&v2), 46);
-    let (first, second) = trials(Set::I, &v1, &v2, &v1, &v2);
+    let (first, second) = thin_trials();
     assert_eq!((first, first.count_ones()), (17_779, 8));
     assert_eq!((second, second.count_ones()), (92, 4));
 }
 
 #[test]
-fn twelve_zero_words_give_the_signature_out() {
-    let (mut z1, mut z2_dagger) = (vec![77; N], vec![77; N]);
-    let response = thin_response(1, &[0; 12], &mut z1, &mut z2_dagger);
-    assert_eq!(
-        response,
-        Response {
-            outcome: Ok(()),
-            words: 12
-        }
-    );
-    let expected: Vec<i16> = (0..N).map(|i| if i < 23 { -1 } else { 0 }).collect();
-    assert_eq!(z1, expected);
-    assert_eq!(z2_dagger, vec![0; N]);
-
-    let key = keys::thin();
-    let list: Vec<u16> = (0..23).collect();
-    let (mut committed, mut rebuilt) = (vec![7; N], vec![7; N]);
-    assert_eq!(
-        commitment(1, &key.a, &[0; N], &[0; N], &mut committed),
-        Ok(())
-    );
-    assert_eq!(
-        rebuild(1, &key.a, &z1, &z2_dagger, &list, &mut rebuilt),
-        Ok(())
-    );
-    assert_eq!(committed, vec![0; N]);
-    assert_eq!(rebuilt, vec![0; N]);
+fn its_walk_is_a_point_of_the_draw() {
+    let (first, second) = thin_trials();
+    for (threshold, lent, outcome, taken) in [
+        (1, 12, Ok(()), 12),
+        (1, 11, Err(Refusal::WORDS), 11),
+        (0, 1, Err(Refusal::DRAW), 1),
+        (1, 0, Err(Refusal::WORDS), 0),
+        (0, 0, Err(Refusal::WORDS), 0),
+    ] {
+        let drawn = draw(first, second, &[threshold; 31], &vec![0; lent]);
+        assert_eq!(drawn, (outcome, taken), "{lent} words");
+    }
 }
 
 #[test]
-fn words_that_run_out_and_words_that_reject() {
-    let cases = [
-        (1, 11, Refusal::WORDS, 11),
-        (0, 1, Refusal::DRAW, 1),
-        (1, 0, Refusal::WORDS, 0),
-        (0, 0, Refusal::WORDS, 0),
-    ];
-    for (thresholds, count, refusal, taken) in cases {
-        let (mut z1, mut z2_dagger) = (vec![77; N], vec![77; N]);
-        let words = vec![0; count];
-        let response = thin_response(thresholds, &words, &mut z1, &mut z2_dagger);
-        assert_eq!(
-            response,
-            Response {
-                outcome: Err(refusal),
-                words: taken
-            }
-        );
-        assert_eq!((z1, z2_dagger), (vec![77; N], vec![77; N]));
-    }
+fn its_signature_rebuilds_its_commitment() {
+    let a = keys::thin().a;
+    let [_, _, z1, z2] = thin_sums();
+    let z2_dagger = dropped_digits(Set::I, &sums(&a, &[0; N], &[0; N]), &z2);
+    assert_eq!(z2_dagger, vec![0; N]);
+    let z1: Vec<i16> = z1.into_iter().map(|entry| entry as i16).collect();
+    let (mut committed, mut rebuilt) = (vec![7; N], vec![7; N]);
+    let outcome = commitment(1, &a, &[0; N], &[0; N], &mut committed);
+    assert_eq!(outcome, Ok(()));
+    let outcome = rebuild(1, &a, &z1, &[0; N], &first_places(), &mut rebuilt);
+    assert_eq!(outcome, Ok(()));
+    assert_eq!(committed, vec![0; N]);
+    assert_eq!(rebuilt, vec![0; N]);
 }
 
 #[test]

@@ -1,13 +1,15 @@
 //! "Numbers that come back": each call's order, with all later faults present at once, and
 //! output buffers that keep their contents.
 
+use second::key::{require_key_length, require_relation};
 use second::parameters::N;
 use second::record::total;
 use second::testing::calls::{run, Answered, Call, Input, OutputLengths, Outputs};
-use second::testing::keys;
+use second::testing::edges::{past_k, Edge};
+use second::testing::keys::{self, Key};
 use second::testing::noise::Noise;
 use second::testing::sheet::sign;
-use second::{commitment, compare, key_test, write, Refusal, Set};
+use second::{commitment, compare, write, Refusal, Set};
 
 /// Refusals of a call, each with what brings it about.
 type Faults<'a> = &'a [(Refusal, &'a dyn Fn(&mut Input))];
@@ -103,8 +105,19 @@ fn break_relation(input: &mut Input) {
     input.a[3] = (input.a[3] + 1) % 12289;
 }
 
-fn lengthen_key(input: &mut Input) {
+/// Wrong counts, past K too.
+fn fill_g(input: &mut Input) {
     input.g.fill(2);
+}
+
+/// The same with another key.
+fn with_key(input: &Input, key: &Key) -> Input {
+    Input {
+        f: key.f.clone(),
+        g: key.g.clone(),
+        a: key.a.clone(),
+        ..input.clone()
+    }
 }
 
 #[test]
@@ -114,7 +127,7 @@ fn key_test_order() {
             (Refusal::SET, &|input| input.set = 5),
             (Refusal::LENGTH, &|input| input.g.push(0)),
             (Refusal::COEFFICIENT, &|input| input.a[511] = 12289),
-            (Refusal::KEY_LENGTH, &lengthen_key),
+            (Refusal::COUNTS, &fill_g),
             (Refusal::RELATION, &break_relation),
         ];
         require_order(Call::KeyTest, &right_input(set, 51), order);
@@ -132,18 +145,53 @@ fn each_vector_of_the_key_is_tested() {
         (Refusal::COEFFICIENT, &|input| input.g[0] = i8::MIN),
         (Refusal::COEFFICIENT, &|input| input.g[511] = i8::MAX),
         (Refusal::COEFFICIENT, &|input| input.a[0] = u16::MAX),
+        (Refusal::COUNTS, &|input| input.f.fill(0)),
+        (Refusal::COUNTS, &|input| input.g.fill(-1)),
         (Refusal::RELATION, &|input| input.f.reverse()),
     ];
     require_each(Call::KeyTest, &right_input(Set::III, 52), faults);
 }
 
 #[test]
-fn the_key_length_is_tested_at_k() {
+fn every_edge_of_the_counts_is_refused() {
     let mut noise = Noise::new(53);
+    for (set, count) in Set::ALL.into_iter().zip([13, 13, 21, 21]) {
+        let right = right_input(set, 53);
+        let key = keys::published(set, &mut noise);
+        let edges = Edge::all(set);
+        assert_eq!(edges.len(), count);
+        for edge in edges {
+            let off = edge.of(set, &key, &mut noise);
+            assert_eq!(require_relation(&off.f, &off.g, &off.a), Ok(()));
+            for call in [Call::KeyTest, Call::Respond] {
+                let answered = answer(call, &with_key(&right, &off));
+                assert_eq!(answered, Answered::new((15, 0)), "{}", edge.name());
+            }
+        }
+    }
+}
+
+#[test]
+fn the_counts_go_before_the_length_and_the_relation() {
+    let mut noise = Noise::new(66);
+    let (long, broken) = (Err(Refusal::KEY_LENGTH), Err(Refusal::RELATION));
     for set in Set::ALL {
-        for (excess, outcome) in [(0, Ok(())), (1, Err(Refusal::KEY_LENGTH))] {
-            let key = keys::of_squared_length(set.k() + excess, &mut noise);
-            assert_eq!(key_test(set.number(), &key.f, &key.g, &key.a), outcome);
+        let right = right_input(set, 66);
+        let past_k = past_k(set, &mut noise);
+        for (key, breaks, length, relation) in [
+            (keys::thin(), true, Ok(()), broken),
+            (past_k.clone(), false, long, Ok(())),
+            (past_k, true, long, broken),
+        ] {
+            let mut input = with_key(&right, &key);
+            if breaks {
+                break_relation(&mut input);
+            }
+            assert_eq!(require_key_length(set, &input.f, &input.g), length);
+            assert_eq!(require_relation(&input.f, &input.g, &input.a), relation);
+            for call in [Call::KeyTest, Call::Respond] {
+                assert_eq!(answer(call, &input), Answered::new((15, 0)));
+            }
         }
     }
 }
@@ -231,7 +279,7 @@ fn response_order() {
             (Refusal::COEFFICIENT, &|input| input.f[100] = 3),
             (Refusal::MASK, &|input| input.y1[0] = 4097),
             (Refusal::LIST, &|input| input.list[1] = input.list[0]),
-            (Refusal::KEY_LENGTH, &lengthen_key),
+            (Refusal::COUNTS, &fill_g),
             (Refusal::RELATION, &break_relation),
             (Refusal::DRAW, &|input| input.thresholds.fill(0)),
             (Refusal::entry(6), &|input| input.y1[6] = 4000),

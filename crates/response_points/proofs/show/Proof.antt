@@ -41,11 +41,17 @@ slice-aggregate-print-number c = search needs
 print-number-requires : tie.Need-print-number-requires
 print-number-requires c κs = search needs
 
-slice-aggregate-print-number-2 : tie.Need-slice-aggregate-print-number-2
-slice-aggregate-print-number-2 c = search needs
-
 first-trial-requires : tie.Need-first-trial-requires
 first-trial-requires c κs = search needs
+
+second-trial-requires : tie.Need-second-trial-requires
+second-trial-requires c κs =
+    let q = c .before .before .before in
+    let s = q .before .before .before .before .before .before in
+    (s .pre .0, s .pre .1, q .squared-length .ensures, rw (q .squared-length .ensures) (short s))
+
+slice-aggregate-print-number-2 : tie.Need-slice-aggregate-print-number-2
+slice-aggregate-print-number-2 c = search needs
 
 cast-print-number : tie.Need-cast-print-number
 cast-print-number c = search needs
@@ -56,17 +62,14 @@ print-number-requires-2 c κs = search needs
 slice-aggregate-print-number-3 : tie.Need-slice-aggregate-print-number-3
 slice-aggregate-print-number-3 c = search needs
 
-second-trial-requires : tie.Need-second-trial-requires
-second-trial-requires c κs =
-    let q = c .before .before .before .before .before .before in
-    let s = q .before .before .before .before .before .before in
-    (s .pre .0, s .pre .1, q .squared-length .ensures, rw (q .squared-length .ensures) (short s))
-
 cast-print-number-2 : tie.Need-cast-print-number-2
 cast-print-number-2 c = search needs
 
 print-number-requires-3 : tie.Need-print-number-requires-3
 print-number-requires-3 c κs = search needs
+
+walks-requires : tie.Need-walks-requires
+walks-requires c κs = search needs
 
 returns : tie.Need-returns
 returns c = search needs
@@ -83,12 +86,13 @@ show-spec =
     squared-length-requires
     slice-aggregate-print-number
     print-number-requires
-    slice-aggregate-print-number-2
     first-trial-requires
+    second-trial-requires
+    slice-aggregate-print-number-2
     cast-print-number
     print-number-requires-2
     slice-aggregate-print-number-3
-    second-trial-requires
     cast-print-number-2
     print-number-requires-3
+    walks-requires
     returns)

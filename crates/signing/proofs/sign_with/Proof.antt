@@ -1,22 +1,18 @@
-use mathlib.Core.Path.{_≡_, refl, sym, ap, _∙_}
-use mathlib.Core.Bool.{true}
+use mathlib.Core.Path.{_≡_, refl, ap, _∙_}
 use mathlib.Core.List.{List}
 use Prim.Native.Nat.{ℕ, _+_, _*_, _≤_}
 use native.Mathlib.Omega.{arith}
 use borrow.Author.Needs.{needs}
-use borrow.Author.Tests.{not-false}
 use lib.IntN.{ℤ}
 use Rattle.sets.specs.Numbers.{kappaOf, keyLimitOf}
-use Rattle.answers.specs.Outcomes.{isDone}
-use Rattle.answers.proofs.Calls.{refused, admitted}
+use Rattle.laws.proofs.Chain.{stop, pass}
 use Rattle.vectors.specs.Vectors.{squares}
 use Rattle.vectors.proofs.Rising.{proper-places}
-use Rattle.keys.specs.Key.{properKey}
 use Rattle.vectors.specs.Pairs.{pair}
 use Rattle.choices.proofs.Pairs.{Sized, Within}
-use Rattle.signing.specs.Response.{leaving, drawn}
+use Rattle.signing.specs.Response.{drawn}
 use Rattle.masking.proofs.Chosen.{few-places, chosen-sized, chosen-short, chosen-within}
-use Rattle.signing.proofs.Ways.{refusal-at, short-key}
+use Rattle.signing.proofs.Ways.{refusal-at}
 use Rattle.signing.proofs.sign_with.Statement.{statement}
 use Rattle.signing.proofs.sign_with.Tie as tie
 
@@ -26,14 +22,11 @@ slice-aggregate-transform-key c = search needs
 transform-key-requires : tie.Need-transform-key-requires
 transform-key-requires c κs = search needs
 
-slice-aggregate-proper-key : tie.Need-slice-aggregate-proper-key
-slice-aggregate-proper-key c = search needs
+slice-aggregate-holds-relation : tie.Need-slice-aggregate-holds-relation
+slice-aggregate-holds-relation c = search needs
 
-proper-key-requires : tie.Need-proper-key-requires
-proper-key-requires c κs = search needs
-
-is-done-requires : tie.Need-is-done-requires
-is-done-requires c κs = search needs
+holds-relation-requires : tie.Need-holds-relation-requires
+holds-relation-requires c κs = search needs
 
 refusal-requires : tie.Need-refusal-requires
 refusal-requires c κs = search needs
@@ -41,9 +34,7 @@ refusal-requires c κs = search needs
 returns : tie.Need-returns
 returns c =
     let t = c .before in
-    let a = t .before .before .before .before .before .before .before .before .before .before .before .args in
-    refused _ _ _ (leaving (pair (a .z1 .now) (a .z2 .now)) 0) _ _ (t .before .before .proper-key .ensures) (t .before .is-done .ensures) (t .if1 .taken)
-    (refusal-at _ _ _ _ _ (c .refusal .ensures .0) (c .refusal .ensures .1))
+    stop _ _ _ _ _ (t .before .holds-relation .ensures) (t .if1 .taken) (refusal-at _ _ _ _ _ (c .refusal .ensures .0) (c .refusal .ensures .1))
 
 slice-aggregate-choose : tie.Need-slice-aggregate-choose
 slice-aggregate-choose c = search needs
@@ -51,10 +42,10 @@ slice-aggregate-choose c = search needs
 slice-aggregate-choose-2 : tie.Need-slice-aggregate-choose-2
 slice-aggregate-choose-2 c = search needs
 
--- the key is proper
+-- the relation holds
 module _ (t : tie.Else1) where
   abbrev start : tie.Start
-  start = t .before .before .before .before .before .before .before .before .before .before .before
+  start = t .before .before .before .before .before .before .before .before .before .before
 
   abbrev s1 : List ℤ
   s1 = start .args .s1 .now
@@ -65,17 +56,11 @@ module _ (t : tie.Else1) where
   abbrev list : List ℕ
   list = start .args .list .now
 
-  done : isDone (properKey (start .args .s) (start .args .a .now) s1 s2) ≡ true
-  done = ap isDone (sym (t .before .before .proper-key .ensures)) ∙ sym (t .before .is-done .ensures) ∙ not-false (t .before .is-done .result) (t .if1 .left)
-
-  short : squares s1 + squares s2 ≤ keyLimitOf (start .args .s)
-  short = short-key (start .args .s) (start .args .a .now) s1 s2 done
-
 choose-requires : tie.Need-choose-requires
 choose-requires c κs =
     let t = c .before .before in
     let p = start t .pre in
-    ((p .0 .0, p .0 .1, p .1 .1 .0, p .1 .1 .1), ((few-places (start t .args .s) (list t) (p .1 .1 .3), proper-places (start t .args .s) (list t) (p .1 .1 .3)), (refl, refl)))
+    ((p .0 .0, p .0 .1, p .1 .1 .0 .0, p .1 .1 .0 .1), ((few-places (start t .args .s) (list t) (p .1 .1 .0 .3), proper-places (start t .args .s) (list t) (p .1 .1 .0 .3)), (refl, refl)))
 
 -- the choices are made
 module _ (c : tie.After-choose) where
@@ -90,18 +75,18 @@ module _ (c : tie.After-choose) where
 
   sizes : Sized (pair v1 v2)
   sizes =
-      chosen-sized (start key .args .s) (s1 key) (s2 key) (list key) (start key .pre .0 .0) (start key .pre .0 .1) (start key .pre .1 .1 .3) v1 v2
+      chosen-sized (start key .args .s) (s1 key) (s2 key) (list key) (start key .pre .0 .0) (start key .pre .0 .1) (start key .pre .1 .1 .0 .3) v1 v2
       (c .choose .ensures)
 
   bound : squares v1 + squares v2 ≤ kappaOf (start key .args .s) * keyLimitOf (start key .args .s)
   bound =
-      chosen-short (start key .args .s) (s1 key) (s2 key) (list key) (start key .pre .0 .0) (start key .pre .0 .1) (start key .pre .1 .1 .3) v1 v2
-      (c .choose .ensures) (short key)
+      chosen-short (start key .args .s) (s1 key) (s2 key) (list key) (start key .pre .0 .0) (start key .pre .0 .1) (start key .pre .1 .1 .0 .3) v1 v2
+      (c .choose .ensures) (start key .pre .1 .1 .1)
 
   entries : Within (kappaOf (start key .args .s) * 5) (pair v1 v2)
   entries =
-      chosen-within (start key .args .s) (s1 key) (s2 key) (list key) (start key .pre .0 .0) (start key .pre .0 .1) (start key .pre .1 .1 .3) v1 v2
-      (c .choose .ensures) (start key .pre .1 .1 .0) (start key .pre .1 .1 .1)
+      chosen-within (start key .args .s) (s1 key) (s2 key) (list key) (start key .pre .0 .0) (start key .pre .0 .1) (start key .pre .1 .1 .0 .3) v1 v2
+      (c .choose .ensures) (start key .pre .1 .1 .0 .0) (start key .pre .1 .1 .0 .1)
 
 slice-aggregate-draw-for : tie.Need-slice-aggregate-draw-for
 slice-aggregate-draw-for c = search needs
@@ -121,7 +106,7 @@ draw-for-requires c κs =
       (
         p .1 .0,
         (
-          (t .before .before .before .before .before .transform-key .ensures, p .1 .1 .2, bound m),
+          (t .before .before .before .before .transform-key .ensures, p .1 .1 .0 .2, bound m),
           (λ k. omega (arith, entries m .first k), λ k. omega (arith, entries m .second k)),
         ),
       ),
@@ -137,8 +122,7 @@ returns-2 : tie.Need-returns-2
 returns-2 c =
     let m = c .before .before .before .before .before .before .before .before .before .before .before .before in
     let t = key m in
-    let a = start t .args in
-    admitted _ _ _ (leaving (pair (a .z1 .now) (a .z2 .now)) 0) _ _ (t .before .before .proper-key .ensures) (t .before .is-done .ensures) (t .if1 .left)
+    pass _ _ _ _ _ (t .before .holds-relation .ensures) (t .if1 .left)
     (c .before .before .before .before .draw-for .ensures ∙ ap (drawn _ _) (m .choose .ensures))
 
 pub sign-with-spec : {M : Type 1} → statement M
@@ -147,9 +131,8 @@ sign-with-spec =
     (tie.spec
     slice-aggregate-transform-key
     transform-key-requires
-    slice-aggregate-proper-key
-    proper-key-requires
-    is-done-requires
+    slice-aggregate-holds-relation
+    holds-relation-requires
     refusal-requires
     returns
     slice-aggregate-choose

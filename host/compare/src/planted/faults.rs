@@ -1,5 +1,7 @@
 //! The faults that are planted, and the one that is in the library now.
 
+#[cfg(target_arch = "x86_64")]
+use second::parameters::KeyCounts;
 use second::testing::calls::Call::{self, *};
 use std::cell::Cell;
 use std::fmt;
@@ -39,6 +41,85 @@ pub enum Wrong {
     Tail(Buffer),
     /// The entry before the buffer is written.
     Before(Buffer),
+    /// A key whose counts are wrong passes by this rule.
+    Counts(Rule),
+    /// The counts are tested before the coefficients' ranges, the masks and the list.
+    CountsFirst,
+    /// The counts are tested after the relation.
+    CountsLast,
+}
+
+/// A rule on the counts of f and of g that lets more keys pass than the paper's.
+#[derive(Clone, Copy, Debug, PartialEq, Eq)]
+pub enum Rule {
+    /// There is none.
+    Untested,
+    OfFAlone,
+    OfGAlone,
+    /// f and g have the counts together.
+    Together,
+    AtMost,
+    AtLeast,
+    /// Only coefficients of 1 or -1 are counted.
+    Ones,
+    /// Only coefficients of 2 or -2 are counted.
+    Twos,
+    /// All are counted in one, those of 2 or -2 so many times.
+    Weighed(usize),
+}
+
+impl Rule {
+    const ALL: [Rule; 11] = [
+        Rule::Untested,
+        Rule::OfFAlone,
+        Rule::OfGAlone,
+        Rule::Together,
+        Rule::AtMost,
+        Rule::AtLeast,
+        Rule::Ones,
+        Rule::Twos,
+        Rule::Weighed(1),
+        Rule::Weighed(2),
+        Rule::Weighed(4),
+    ];
+
+    /// Whether a key passes whose f and g have these counts.
+    #[cfg(target_arch = "x86_64")]
+    pub fn passes(self, f: KeyCounts, g: KeyCounts, right: KeyCounts) -> bool {
+        let each = |passes: fn(KeyCounts, KeyCounts) -> bool| passes(f, right) && passes(g, right);
+        match self {
+            Rule::Untested => true,
+            Rule::OfFAlone => f == right,
+            Rule::OfGAlone => g == right,
+            Rule::Together => {
+                (f.ones + g.ones, f.twos + g.twos) == (2 * right.ones, 2 * right.twos)
+            }
+            Rule::AtMost => each(|of, right| of.ones <= right.ones && of.twos <= right.twos),
+            Rule::AtLeast => each(|of, right| of.ones >= right.ones && of.twos >= right.twos),
+            Rule::Ones => each(|of, right| of.ones == right.ones),
+            Rule::Twos => each(|of, right| of.twos == right.twos),
+            Rule::Weighed(weight) => {
+                let sum = |of: KeyCounts| of.ones + weight * of.twos;
+                sum(f) == sum(right) && sum(g) == sum(right)
+            }
+        }
+    }
+}
+
+impl fmt::Display for Rule {
+    fn fmt(&self, out: &mut fmt::Formatter<'_>) -> fmt::Result {
+        match self {
+            Rule::Untested => write!(out, "not tested"),
+            Rule::OfFAlone => write!(out, "tested of f alone"),
+            Rule::OfGAlone => write!(out, "tested of g alone"),
+            Rule::Together => write!(out, "tested of f and g together"),
+            Rule::AtMost => write!(out, "tested as at most"),
+            Rule::AtLeast => write!(out, "tested as at least"),
+            Rule::Ones => write!(out, "tested of 1 and -1 alone"),
+            Rule::Twos => write!(out, "tested of 2 and -2 alone"),
+            Rule::Weighed(weight) => write!(out, "tested in one, a 2 as {weight}"),
+        }
+    }
 }
 
 #[derive(Clone, Copy, Debug, PartialEq, Eq)]
@@ -75,6 +156,9 @@ impl fmt::Display for Wrong {
             Wrong::Refused(buffer) => write!(out, "an entry of {buffer} written on a refusal"),
             Wrong::Tail(buffer) => write!(out, "the tail of {buffer} written"),
             Wrong::Before(buffer) => write!(out, "the entry before {buffer} written"),
+            Wrong::Counts(rule) => write!(out, "counts {rule}"),
+            Wrong::CountsFirst => write!(out, "counts tested before 3, 4 and 5"),
+            Wrong::CountsLast => write!(out, "counts tested after 6"),
         }
     }
 }
@@ -117,11 +201,15 @@ fn wrongs(call: Call) -> Vec<Wrong> {
     }
     wrongs.push(Wrong::Place);
     match call {
-        Respond => wrongs.extend([0, 8, 9, 10, 11].map(Wrong::Words)),
+        Respond => wrongs.extend([0, 15, 8, 9, 10, 11].map(Wrong::Words)),
         Read => wrongs.extend([Wrong::Set, Wrong::Tail(List)]),
         Write => wrongs.push(Wrong::Tail(Record)),
         Z1Section | Z2Section | ListSection => wrongs.extend([Wrong::Start, Wrong::Length]),
         _ => {}
+    }
+    if call.numbers().contains(&15) {
+        wrongs.extend(Rule::ALL.map(Wrong::Counts));
+        wrongs.extend([Wrong::CountsFirst, Wrong::CountsLast]);
     }
     for &buffer in written(call) {
         wrongs.push(Wrong::Entry(buffer));

@@ -3,7 +3,11 @@
 
 use crate::faults::{wrong_with, Buffer, Wrong};
 use bursztok::foreign::{Answer, Part, Reading, Response};
+use second::answers::number_and_place;
+use second::key::{counts_of, require_counts, require_key_length, require_relation};
 use second::testing::calls::Call;
+use second::{Refusal, Set};
+use std::slice::from_raw_parts;
 
 /// A number with a lowest digit that can be turned.
 trait Digit: Copy {
@@ -50,6 +54,33 @@ impl Answered {
         }
         if self.is(Wrong::Place) && (placed(self.number) || !has_places && self.number != 0) {
             *place += 1;
+        }
+    }
+
+    /// The number of a library with the wrong rule on counts, or with the rule at the wrong place of
+    /// the order; none where that makes no difference. Of a key that the wrong rule lets pass, the
+    /// first refusal after it is told, and done where there is none.
+    fn number_by_counts(self, set: u32, f: &[i8], g: &[i8], a: &[u16]) -> Option<u32> {
+        let set = Set::asked(set).ok()?;
+        let right = set.key_counts();
+        let counts = Refusal::COUNTS.number;
+        let refused = self.number == counts;
+        let later = || {
+            let length = require_key_length(set, f, g);
+            number_and_place(length.and_then(|()| require_relation(f, g, a))).0
+        };
+        match self.wrong? {
+            Wrong::Counts(rule) if refused && rule.passes(counts_of(f), counts_of(g), right) => {
+                Some(later())
+            }
+            Wrong::CountsFirst if [3, 4, 5].contains(&self.number) => {
+                require_counts(set, f, g).is_err().then_some(counts)
+            }
+            Wrong::CountsLast if refused => {
+                let broken = require_relation(f, g, a).is_err();
+                broken.then_some(Refusal::RELATION.number)
+            }
+            _ => None,
         }
     }
 
@@ -106,7 +137,12 @@ macro_rules! wrapped {
 wrapped!(
     KeyTest, __wrap_bursztok_key_test, __real_bursztok_key_test,
     (set: u32, f: *const i8, f_len: usize, g: *const i8, g_len: usize, a: *const u16, a_len: usize) -> Answer,
-    |found, answered| {}
+    |found, answered| {
+        let (f, g) = (from_raw_parts(f, f_len), from_raw_parts(g, g_len));
+        if let Some(number) = answered.number_by_counts(set, f, g, from_raw_parts(a, a_len)) {
+            found.number = number;
+        }
+    }
 );
 
 wrapped!(
@@ -141,6 +177,10 @@ wrapped!(
         z2: *mut i8, z2_len: usize,
     ) -> Response,
     |found, answered| {
+        let (f, g) = (from_raw_parts(f, f_len), from_raw_parts(g, g_len));
+        if let Some(number) = answered.number_by_counts(set, f, g, from_raw_parts(a, a_len)) {
+            found.number = number;
+        }
         if answered.is(Wrong::Words(answered.number)) {
             found.words += 1;
         }

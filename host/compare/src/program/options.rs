@@ -6,10 +6,11 @@ use std::hash::{BuildHasher, RandomState};
 pub const USAGE: &str = "\
 bursztok-compare [--seed N] [--cases N | --seconds N] [--case N]
 
-Runs every call of the library against the second program: first the planned cases (every pair of
-faults of every call and set, every header bit, every length of a record, every count of words,
-every step of the draw, masks that make the dropped digits cost their figure), then random ones.
-At the end it tells how far 2^d times z2 dagger lay from z2 in each set, beside the figure.
+Runs every call of the library against the second program: first the planned cases (every edge of a
+key's counts, every pair of faults of every call and set, every header bit, every length of a
+record, every count of words, every step of the draw, masks that make the dropped digits cost their
+figure), then random ones. At the end it tells how far 2^d times z2 dagger lay from z2 in each set,
+beside the figure.
 
   --seed N     what all cases are made from (default: a fresh one, which is printed)
   --cases N    so many random cases after the planned ones (default 1000)
@@ -17,8 +18,8 @@ At the end it tells how far 2^d times z2 dagger lay from z2 in each set, beside 
   --case N     only the case of this number
 
 The last line is 'N passed, M failed', in compared calls; a number that a call never gave is a
-failure, and so is a figure that no response reached. Exit status: 0 all passed, 1 some failed, 2
-bad usage.";
+failure, and so are a number that it can't give and a figure that no response reached. Exit status:
+0 all passed, 1 some failed, 2 bad usage.";
 
 const FORM: Form = Form {
     name: "bursztok-compare",

@@ -71,12 +71,13 @@ impl Call {
         !matches!(self, Call::Kappa | Call::RecordBytes)
     }
 
-    /// The numbers that the call gives: 0, then its refusals in the paper's order.
+    /// The numbers that the call gives: 0, then its refusals in the paper's order. 7, between 15
+    /// and 6, can't occur.
     pub fn numbers(self) -> &'static [u32] {
         match self {
-            Call::KeyTest => &[0, 1, 2, 3, 7, 6],
+            Call::KeyTest => &[0, 1, 2, 3, 15, 6],
             Call::Commitment | Call::CommitmentWithRests => &[0, 1, 2, 3, 4],
-            Call::Respond => &[0, 1, 2, 3, 4, 5, 7, 6, 8, 9, 10, 11],
+            Call::Respond => &[0, 1, 2, 3, 4, 5, 15, 6, 8, 9, 10, 11],
             Call::Rebuild => &[0, 1, 2, 3, 5, 10, 11],
             Call::Compare => &[0, 1, 5, 12],
             Call::Write => &[0, 1, 2, 5, 10, 11, 14],

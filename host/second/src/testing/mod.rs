@@ -3,6 +3,8 @@
 
 pub mod boundary;
 pub mod calls;
+pub mod edges;
+pub mod euclid;
 pub mod hash;
 pub mod keys;
 pub mod noise;

@@ -4,11 +4,12 @@ use super::{load_key, Recording};
 use crate::slots::{Asked, A, F, G};
 use second::parameters::N;
 use second::testing::calls::Call;
-use second::testing::keys;
+use second::testing::edges::{past_k, Edge};
+use second::testing::keys::{self, Key};
 use second::testing::sheet::Try;
 
 /// Keys of each set beside the first, which has the refusals.
-const MORE_KEYS: u8 = 8;
+const MORE_KEYS: u8 = 6;
 
 impl Recording<'_> {
     pub(super) fn key_tests(&mut self) {
@@ -19,7 +20,7 @@ impl Recording<'_> {
         self.key_faults(Call::KeyTest, asked);
     }
 
-    /// Refusals 3, 7 and 6, alone and 7 with 6.
+    /// Refusals 3, 15 and 6, alone and several at once.
     pub(super) fn key_faults(&mut self, call: Call, asked: Asked) {
         for (slot, place, value) in [(F, 0, 3), (F, 511, -3), (G, 7, i8::MIN), (G, 511, i8::MAX)] {
             self.recorder.patched(slot, place, value, |recorder| {
@@ -35,30 +36,57 @@ impl Recording<'_> {
         self.recorder.patched(A, 9, (a + 1) % 12289, |recorder| {
             recorder.call(call, asked);
         });
-        // A key of the published counts is so near to K that one coefficient more is too many.
-        let zero = self.key.g.iter().rposition(|&entry| entry == 0);
-        let place = zero.expect("most entries are zero");
-        self.recorder.patched(G, place, 2i8, |recorder| {
+        // A sign turned, which keeps the counts.
+        let one = self.place_in_f(1);
+        let turned = -self.key.f[one];
+        self.recorder.patched(F, one, turned, |recorder| {
             recorder.call(call, asked);
         });
+        // One coefficient more, where the relation breaks too; and one out of range beside it.
+        self.recorder
+            .patched(F, self.place_in_f(0), 1i8, |recorder| {
+                recorder.call(call, asked);
+                recorder.patched(G, 7, -3i8, |recorder| {
+                    recorder.call(call, asked);
+                });
+            });
     }
 
-    /// A key at K, one past it, and one whose f has no inverse: key test and a try each, with
-    /// thresholds that pass everything.
+    /// The last place where f has a coefficient of this size.
+    pub(super) fn place_in_f(&self, size: i8) -> usize {
+        let place = self.key.f.iter().rposition(|entry| entry.abs() == size);
+        place.expect("f has a coefficient of this size")
+    }
+
+    /// A key at K and one whose f has no inverse: key test and a try each, with thresholds that
+    /// pass everything. Then keys whose counts are wrong.
     pub(super) fn other_keys(&mut self) {
-        let k = self.set.k();
-        let keys = [
-            keys::of_squared_length(k + 1, &mut self.noise),
-            keys::of_squared_length(k, &mut self.noise),
-            keys::without_inverse(self.set, &mut self.noise),
-        ];
         let mut attempt = Try::new(self.set, &self.key, b"other keys", &mut self.noise).0;
         attempt.thresholds.fill(u64::MAX);
-        for key in keys {
-            load_key(self.recorder, &key);
+        for make in [keys::at_k, keys::without_inverse] {
+            load_key(self.recorder, &make(self.set, &mut self.noise));
             self.call(Call::KeyTest);
             self.attempt(&attempt);
         }
+        self.wrong_counts();
+    }
+
+    /// Every edge of the counts, and a key past K, also with the relation broken.
+    fn wrong_counts(&mut self) {
+        for edge in Edge::all(self.set) {
+            let key = edge.of(self.set, &self.key, &mut self.noise);
+            self.test_and_respond(&key);
+        }
+        let mut key = past_k(self.set, &mut self.noise);
+        self.test_and_respond(&key);
+        key.a[9] = (key.a[9] + 1) % 12289;
+        self.test_and_respond(&key);
+    }
+
+    fn test_and_respond(&mut self, key: &Key) {
+        load_key(self.recorder, key);
+        self.call(Call::KeyTest);
+        self.call(Call::Respond);
     }
 
     /// Keys as they are made for signing: key test and a sheet each.

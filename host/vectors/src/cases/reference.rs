@@ -7,7 +7,8 @@ use second::parameters::N;
 use second::testing::calls::Call;
 use second::testing::keys;
 
-/// 01's reference point: set 1, f = 1, g = 0, a = 1, masks zero, list 0 .. 22, sign bit 0.
+/// 01's reference point: set 1, f = 1, g = 0, a = 1, masks zero, list 0 .. 22, sign bit 0. Its key
+/// is refused.
 pub fn reference_point(recorder: &mut Recorder) {
     let key = keys::thin();
     load_key(recorder, &key);
@@ -22,14 +23,9 @@ pub fn reference_point(recorder: &mut Recorder) {
         recorder.call(Call::CommitmentWithRests, asked(set));
         recorder.call(Call::Respond, asked(set));
     }
-    rests(recorder);
-    recorder.resize(WORDS, 11);
-    recorder.call(Call::Respond, asked(1));
     recorder.resize(WORDS, 0);
     recorder.call(Call::Respond, asked(1));
-    recorder.load(THRESHOLDS, &[0u64; 31]);
-    recorder.resize(WORDS, 1);
-    recorder.call(Call::Respond, asked(1));
+    rests(recorder);
     let z1: Vec<i16> = (0..N).map(|i| if i < 23 { -1 } else { 0 }).collect();
     recorder.load(Z1, &z1);
     recorder.load(Z2_DAGGER, &[0i8; N]);

@@ -125,6 +125,16 @@ impl Recording<'_> {
                 });
             });
         }
+        // The counts' comes after the masks' and after the list's.
+        self.recorder
+            .patched(F, self.place_in_f(0), -1i8, |recorder| {
+                recorder.patched(Y2, 511, 4097i16, |recorder| {
+                    recorder.call(call, asked);
+                });
+                recorder.patched(LIST, 0, 512u16, |recorder| {
+                    recorder.call(call, asked);
+                });
+            });
         self.list_faults(LIST, &attempt.list, |recorder| {
             recorder.call(call, asked);
         });
