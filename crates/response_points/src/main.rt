@@ -33,21 +33,30 @@ fn print_sum(t: u16) {
 
 // ---- the response, up to the numbers of its trials
 
-// s1 = f = 1 and s2 = 2g + 1 = 1, of squared length 2, and the list of the first kappa places.
+// f = 1 and g = 0: s1 is f, and s2 is made of g.
 fn print_response(s: Set) {
-    let mut one = [0i16; Set::DIMENSION];
-    one[0] = 1;
+    let mut f = [0i16; Set::DIMENSION];
+    let mut g = [0i16; Set::DIMENSION];
+    f[0] = 1;
+    keys::make_second(&mut g);
+    respond(s, &f, &g);
+}
+
+// With the list of the first kappa places.
+fn respond(s: Set, s1: &[i16], s2: &[i16])
+    requires { ⌜ (length (now s1) ≡ dimension) × (length (now s2) ≡ dimension) × (every (within 5) (now s1) ≡ true) × (every (within 5) (now s2) ≡ true) ⌝ }
+{
     let mut places = [0u16; Set::LIST_LIMIT];
     count_up(&mut places);
     let kappa = s.kappa();
     let list = &places[..kappa];
-    if s.key_limit() < 2 {
+    if s.key_limit() < vectors::squared_length(s1) + vectors::squared_length(s2) {
         return;
     }
     if !vectors::is_proper(s, list) {
         return;
     }
-    choose(s, &one, &one, list);
+    choose(s, s1, s2, list);
 }
 
 fn count_up(places: &mut [u16])

@@ -6,8 +6,8 @@ ghost use lib.Dec.{eqb};
 ghost use lib.IntN.{pos, natAbs};
 ghost use lib.ListN.{length, getD};
 ghost use Rattle.laws.specs.Lists.{every};
-ghost use Rattle.sets.specs.Numbers.{dimension, places, kappaOf, keyLimitOf};
 ghost use Rattle.laws.specs.Refusals.{must};
+ghost use Rattle.sets.specs.Numbers.{dimension, places, kappaOf, keyLimitOf};
 ghost use Rattle.answers.specs.declared.Outcome.the-variants.{RelationBroken};
 ghost use Rattle.ring.specs.Transform.{spectrumOf};
 ghost use Rattle.vectors.specs.Vectors.{within, squares};
@@ -164,12 +164,10 @@ fn test(
     if !commitment::are_masks(y1, y2) {
         return refusal(Outcome::MaskOutside);
     }
-    let proper = vectors::is_proper(s, list);
-    if !proper {
+    if !vectors::is_proper(s, list) {
         return refusal(Outcome::ImproperList);
     }
-    let right = keys::right_counts(s, &s1, &s2);
-    if !right {
+    if !keys::right_counts(s, &s1, &s2) {
         return refusal(Outcome::CountsWrong);
     }
     keys::make_second(&mut s2);

@@ -1,85 +1,55 @@
-use mathlib.Core.Path.{_≡_, refl}
+use mathlib.Core.Path.{_≡_, refl, ap, _∙_}
 use mathlib.Core.Bool.{true}
-use native.Mathlib.Omega.{arith}
-use borrow.Author.Needs.{needs}
 use lib.IntN.{pos}
-use lib.ListN.{length-take, set as update}
+use lib.ListN.{length, set as update}
 use Rattle.laws.specs.Lists.{every}
-use Rattle.laws.proofs.Chain.{passed}
-use Rattle.sets.proofs.Alike.{kappa-within}
-use Rattle.vectors.specs.Vectors.{within, squares}
+use Rattle.vectors.specs.Vectors.{within}
 use Rattle.choices.specs.Choices.{zeros}
+use Rattle.keys.proofs.Second.{length-second, second-within}
+use borrow.Author.Needs.{needs}
 use Rattle.response_points.proofs.print_response.Statement.{statement}
 use Rattle.response_points.proofs.print_response.Tie as tie
+
+-- g, and f
+zeros-within : every (within 2) zeros ≡ true
+unfolding every
+zeros-within = refl
 
 one-within : every (within 5) (update zeros 0 (pos 1)) ≡ true
 unfolding every
 one-within = refl
 
-one-squares : squares (update zeros 0 (pos 1)) ≡ 1
-unfolding squares
-one-squares = refl
+array-set-of-f : tie.Need-array-set-of-f
+array-set-of-f c = search needs
 
-array-set-of-one : tie.Need-array-set-of-one
-array-set-of-one c = search needs
+slice-aggregate-make-second : tie.Need-slice-aggregate-make-second
+slice-aggregate-make-second c = search needs
 
-slice-aggregate-count-up : tie.Need-slice-aggregate-count-up
-slice-aggregate-count-up c = search needs
+make-second-requires : tie.Need-make-second-requires
+make-second-requires c κs = (search needs, zeros-within)
 
-count-up-requires : tie.Need-count-up-requires
-count-up-requires c κs = search needs
+slice-aggregate-respond : tie.Need-slice-aggregate-respond
+slice-aggregate-respond c = search needs
 
-kappa-requires : tie.Need-kappa-requires
-kappa-requires c κs = search needs
+slice-aggregate-respond-2 : tie.Need-slice-aggregate-respond-2
+slice-aggregate-respond-2 c = search needs
 
-array-share-prefix-places : tie.Need-array-share-prefix-places
-array-share-prefix-places c = omega (arith, c .kappa .ensures, kappa-within (c .before .before .before .before .args .s))
-
-slice-aggregate-list : tie.Need-slice-aggregate-list
-slice-aggregate-list c = simp length-take (omega (arith, c .before .kappa .ensures, kappa-within (c .before .before .before .before .before .args .s)))
-
-key-limit-requires : tie.Need-key-limit-requires
-key-limit-requires c κs = search needs
+respond-requires : tie.Need-respond-requires
+respond-requires c κs =
+    let made = c .before .before .before .make-second .ensures in
+    (search needs, ap length made ∙ length-second zeros, one-within, ap (every (within 5)) made ∙ second-within zeros zeros-within)
 
 returns : tie.Need-returns
 returns c = search needs
-
-is-proper-requires : tie.Need-is-proper-requires
-is-proper-requires c κs = search needs
-
-returns-2 : tie.Need-returns-2
-returns-2 c = search needs
-
-slice-aggregate-choose : tie.Need-slice-aggregate-choose
-slice-aggregate-choose c = search needs
-
-slice-aggregate-choose-2 : tie.Need-slice-aggregate-choose-2
-slice-aggregate-choose-2 c = search needs
-
-choose-requires : tie.Need-choose-requires
-choose-requires c κs =
-    let t = c .before .before in
-    let u = t .before .before in
-    ((search needs, search needs, one-within, one-within), (omega (arith, one-squares, u .before .key-limit .ensures, u .if1 .left), passed (t .before .is-proper .ensures) (t .if2 .left)))
-
-returns-3 : tie.Need-returns-3
-returns-3 c = search needs
 
 pub print-response-spec : {M : Type 1} → statement M
 print-response-spec =
     tie.close
     (tie.spec
-    array-set-of-one
-    slice-aggregate-count-up
-    count-up-requires
-    kappa-requires
-    array-share-prefix-places
-    slice-aggregate-list
-    key-limit-requires
-    returns
-    is-proper-requires
-    returns-2
-    slice-aggregate-choose
-    slice-aggregate-choose-2
-    choose-requires
-    returns-3)
+    array-set-of-f
+    slice-aggregate-make-second
+    make-second-requires
+    slice-aggregate-respond
+    slice-aggregate-respond-2
+    respond-requires
+    returns)
