@@ -22,6 +22,19 @@ pub fn answer(text: &[u8], r: Answer) {
     print(b"\n");
 }
 
+// The same, where the line was begun with numbers.
+pub fn answered(between: &[u8], text: &[u8], r: Answer) {
+    print(between);
+    print(text);
+    told(r);
+    print(b"\n");
+}
+
+pub fn number_after(text: &[u8], n: u64) {
+    print(text);
+    number(n);
+}
+
 // A call with an output vector.
 pub fn filled(text: &[u8], r: Answer, out: &[u16]) {
     start(text, r);
@@ -141,6 +154,10 @@ fn is(entry: i16, x: i16) -> u64 {
 fn start(text: &[u8], r: Answer) {
     print(b"  ");
     print(text);
+    told(r);
+}
+
+fn told(r: Answer) {
     print(b": ");
     number(r.number as u64);
     if has_place(r) {

@@ -8,9 +8,14 @@ use test_keys::Shape;
 
 pub fn run() {
     thin();
-    one_set();
-    three();
-    four();
+    show::heading(b"key test, so many coefficients of 1 or -1 and of 2 or -2, a = (2g + 1) / f");
+    edges(1, Set::I);
+    edges(2, Set::II);
+    edges(3, Set::III);
+    edges(4, Set::IV);
+    other_sets(Set::I);
+    other_sets(Set::III);
+    other_sets(Set::IV);
     ranges();
     faults();
     lengths();
@@ -29,85 +34,50 @@ fn thin() {
     sized(b"set 4294967295", 4294967295, 512, 512, 512, 1);
 }
 
-// Sets 1 and 2 want 154 coefficients of 1 or -1 and none of 2 or -2.
-fn one_set() {
-    show::heading(
-        b"key test, so many coefficients of 1 or -1 and of 2 or -2 in f and in g, a = (2g + 1) / f",
+// The set's counts, and others in f alone and in g alone.
+fn edges(set: u32, s: Set) {
+    let c = test_keys::shape_of(s, false);
+    made(b"right", set, c, c);
+    alone(b"a 1 more", set, c, more(c.ones, 1), c.twos);
+    alone(b"a 1 fewer", set, c, less(c.ones, 1), c.twos);
+    alone(b"a 2 more", set, c, c.ones, more(c.twos, 1));
+    alone(b"a 2 for a 1", set, c, less(c.ones, 1), more(c.twos, 1));
+    alone(b"a 2 for two 1s", set, c, less(c.ones, 2), more(c.twos, 1));
+    alone(
+        b"a 2 for four 1s: the same squares",
+        set,
+        c,
+        less(c.ones, 4),
+        more(c.twos, 1),
     );
-    made(b"set 1, 154 and 0, 154 and 0", 1, 154, 0, 154, 0);
-    made(b"set 0, the same", 0, 154, 0, 154, 0);
-    made(b"set 2, the same", 2, 154, 0, 154, 0);
-    made(b"set 3, the same", 3, 154, 0, 154, 0);
-    made(b"set 4, the same", 4, 154, 0, 154, 0);
-    made(b"set 5, the same", 5, 154, 0, 154, 0);
-    made(b"set 1, f 155 and 0", 1, 155, 0, 154, 0);
-    made(b"set 1, f 153 and 0", 1, 153, 0, 154, 0);
-    made(b"set 1, g 155 and 0", 1, 154, 0, 155, 0);
-    made(b"set 1, g 153 and 0", 1, 154, 0, 153, 0);
-    made(b"set 1, f 155 and 0, g 153 and 0", 1, 155, 0, 153, 0);
-    made(b"set 1, f 153 and 1: a 2 for a 1", 1, 153, 1, 154, 0);
-    made(b"set 1, g 153 and 1: a 2 for a 1", 1, 154, 0, 153, 1);
-    made(b"set 1, f 152 and 1: a 2 for two 1s", 1, 152, 1, 154, 0);
-    made(b"set 1, g 152 and 1: a 2 for two 1s", 1, 154, 0, 152, 1);
-    made(b"set 2, g 150 and 1: the same squares", 2, 154, 0, 150, 1);
+    if 0 < c.twos {
+        fewer_twos(set, c);
+    }
 }
 
-fn three() {
-    made(b"set 3, 216 and 16, 216 and 16", 3, 216, 16, 216, 16);
-    made(b"set 1, the same", 1, 216, 16, 216, 16);
-    made(b"set 3, f 217 and 16", 3, 217, 16, 216, 16);
-    made(b"set 3, f 215 and 16", 3, 215, 16, 216, 16);
-    made(b"set 3, g 217 and 16", 3, 216, 16, 217, 16);
-    made(b"set 3, g 215 and 16", 3, 216, 16, 215, 16);
-    made(b"set 3, f 216 and 17", 3, 216, 17, 216, 16);
-    made(b"set 3, g 216 and 15", 3, 216, 16, 216, 15);
-    made(b"set 3, f 217 and 15: a 1 for a 2", 3, 217, 15, 216, 16);
-    made(b"set 3, g 217 and 15: a 1 for a 2", 3, 216, 16, 217, 15);
-    made(b"set 3, g 215 and 17: a 2 for a 1", 3, 216, 16, 215, 17);
-    made(
-        b"set 3, f 218 and 15: the two 1s of a 2",
-        3,
-        218,
-        15,
-        216,
-        16,
-    );
-    made(
-        b"set 3, g 218 and 15: the two 1s of a 2",
-        3,
-        216,
-        16,
-        218,
-        15,
-    );
-    made(
-        b"set 3, f 220 and 15: the same squares",
-        3,
-        220,
-        15,
-        216,
-        16,
+fn fewer_twos(set: u32, c: Shape) {
+    let twos = less(c.twos, 1);
+    alone(b"a 2 fewer", set, c, c.ones, twos);
+    alone(b"a 1 for a 2", set, c, more(c.ones, 1), twos);
+    alone(b"the two 1s of a 2", set, c, more(c.ones, 2), twos);
+    alone(
+        b"four 1s for a 2: the same squares",
+        set,
+        c,
+        more(c.ones, 4),
+        twos,
     );
 }
 
-fn four() {
-    made(b"set 4, 231 and 31, 231 and 31", 4, 231, 31, 231, 31);
-    made(b"set 3, the same", 3, 231, 31, 231, 31);
-    made(b"set 4, f 232 and 31", 4, 232, 31, 231, 31);
-    made(b"set 4, f 230 and 31", 4, 230, 31, 231, 31);
-    made(b"set 4, g 232 and 31", 4, 231, 31, 232, 31);
-    made(b"set 4, g 230 and 31", 4, 231, 31, 230, 31);
-    made(b"set 4, f 230 and 32: a 2 for a 1", 4, 230, 32, 231, 31);
-    made(b"set 4, g 232 and 30: a 1 for a 2", 4, 231, 31, 232, 30);
-    made(
-        b"set 4, f 233 and 30: the two 1s of a 2",
-        4,
-        233,
-        30,
-        231,
-        31,
-    );
-    made(b"set 4, g 229 and 32: a 2 for two 1s", 4, 231, 31, 229, 32);
+// A key of one set on each, 0 and 5 included.
+fn other_sets(s: Set) {
+    let c = test_keys::shape_of(s, false);
+    made(b"on each set", 0, c, c);
+    made(b"on each set", 1, c, c);
+    made(b"on each set", 2, c, c);
+    made(b"on each set", 3, c, c);
+    made(b"on each set", 4, c, c);
+    made(b"on each set", 5, c, c);
 }
 
 // Coefficients at and one past each end: 3 before 15, and 15 before 6. At place 0 f and g are 1, at 511 they are 0.
@@ -160,20 +130,40 @@ fn limits() {
     twos(b"set 4, 446: squared length 1785", 4, 446);
 }
 
-// f and g of so many coefficients; those of f are turned at odd places.
-fn made(text: &[u8], set: u32, f_ones: usize, f_twos: usize, g_ones: usize, g_twos: usize) {
+// These counts in f and the set's in g, and the other way round.
+fn alone(text: &[u8], set: u32, right: Shape, ones: usize, twos: usize) {
+    let other = Shape {
+        ones,
+        twos,
+        turned: false,
+    };
+    made(text, set, other, right);
+    made(text, set, right, other);
+}
+
+// Those of f are turned at odd places.
+fn made(text: &[u8], set: u32, of_f: Shape, of_g: Shape) {
     let f = test_keys::polynomial(Shape {
-        ones: f_ones,
-        twos: f_twos,
+        ones: of_f.ones,
+        twos: of_f.twos,
         turned: true,
     });
-    let g = test_keys::polynomial(Shape {
-        ones: g_ones,
-        twos: g_twos,
-        turned: false,
-    });
+    let g = test_keys::polynomial(of_g);
     let a = test_keys::public_key(&f, &g);
-    show::answer(text, bursztok_key_test(set, &f, &g, &a));
+    show::number_after(b"  set ", set as u64);
+    show::number_after(b", f ", of_f.ones as u64);
+    show::number_after(b" and ", of_f.twos as u64);
+    show::number_after(b", g ", of_g.ones as u64);
+    show::number_after(b" and ", of_g.twos as u64);
+    show::answered(b", ", text, bursztok_key_test(set, &f, &g, &a));
+}
+
+fn more(n: usize, by: usize) -> usize {
+    std::num::wrapping_add_usize(n, by)
+}
+
+fn less(n: usize, by: usize) -> usize {
+    if n < by { 0 } else { n - by }
 }
 
 // A key of set 1 whose coefficients of f and g at a place are these, and that of a so much more.
