@@ -1,13 +1,13 @@
 -- What the counts of f and g tell of the squared length of s1 = f and s2 = 2g + 1: it is at most K. Assumes nothing.
 use mathlib.Core.Path.{_≡_, refl, sym, ap, _∙_}
-use mathlib.Core.Bool.{Bool, true, false, _&&_, cond}
+use mathlib.Core.Bool.{true, false, cond}
 use mathlib.Core.List.{List, [], _∷_, map}
 use Prim.Native.Nat.{ℕ, zero, suc, _+_, _*_, _<_, _≤_}
 use native.Mathlib.Nat.{not-suc-le-zero, le-of-suc-le-suc, suc-ne-zero}
 use native.Mathlib.Numerals.{add-one}
 use native.Mathlib.Omega.{arith}
 use borrow.Author.Tests.{eqb-true, ne-eqb, leb-true, le-leb}
-use lib.Dec.{eqb, leb, lit≤}
+use lib.Dec.{eqb, lit≤}
 use lib.IntN.{ℤ, pos, negsuc, natAbs, _+ℤ_, _*ℤ_, +ℤ-assoc}
 use lib.ListN.{length, take, getD}
 use Rattle.laws.specs.Lists.{every}
@@ -17,8 +17,8 @@ use Rattle.laws.proofs.Chain.{and-left, and-right}
 use Rattle.sets.specs.declared.Set.{Set}
 use Rattle.sets.specs.Numbers.{keyLimitOf, onesOf, twosOf, coefficientLimitOf}
 use Rattle.sets.proofs.Alike.{key-limit-is}
-use Rattle.answers.specs.declared.Outcome.the-variants.{Done, RelationBroken, KeyTooLong, CountsWrong}
-use Rattle.vectors.specs.Vectors.{within, squares}
+use Rattle.answers.specs.declared.Outcome.the-variants.{Done, RelationBroken, CountsWrong}
+use Rattle.vectors.specs.Vectors.{squares}
 use Rattle.vectors.specs.Pairs.{pair, squaresPair}
 use Rattle.keys.specs.Key.{isSmall, inRange, second, relation, counted, hasCounts, rightCounts, properKey}
 use Rattle.keys.proofs.Ranges.{f-small, g-small}

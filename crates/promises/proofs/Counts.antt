@@ -1,18 +1,16 @@
 -- The counts of a key: what passes the key test, the squared length, and that refusal 7 can't occur. Assumes nothing.
-use mathlib.Core.Path.{_≡_, refl, sym, ap, subst, _∙_}
+use mathlib.Core.Path.{_≡_, refl, subst}
 use mathlib.Core.Logic.{_⊎_, inl, inr, ⊎-elim}
 use mathlib.Core.Bool.{Bool, true, false, _&&_, cond}
 use mathlib.Core.List.{List, [], _∷_}
-use Prim.Native.Nat.{ℕ, zero, suc, _+_, _-_, _≤_, _<_}
+use Prim.Native.Nat.{ℕ, zero, suc, _+_, _-_, _≤_}
 use native.Mathlib.Omega.{arith}
-use borrow.Author.Needs.{needs}
 use borrow.Author.Tests.{eqb-true, eqb-false, eq-eqb, ne-eqb, leb-true, le-leb}
 use lib.Dec.{eqb, lit≤}
 use lib.IntN.{ℤ, natAbs}
 use lib.ListN.{length}
 use Rattle.laws.specs.Lists.{every}
-use Rattle.laws.specs.Refusals.{must}
-use Rattle.laws.proofs.Chain.{and-left, and-right, must-cases, differ}
+use Rattle.laws.proofs.Chain.{and-left, and-right, must-cases}
 use Rattle.sets.specs.declared.Set.{Set}
 use Rattle.sets.specs.declared.Asked.the-variants.{Known}
 use Rattle.sets.specs.Numbers.{dimension, keyLimitOf, onesOf, twosOf, askedOf}
@@ -25,7 +23,7 @@ use Rattle.vectors.specs.Vectors.{sized, squares}
 use Rattle.vectors.specs.Pairs.{Pair, pair, squaresPair}
 use Rattle.vectors.specs.Places.{properList}
 use Rattle.limits.specs.LengthRule.{lengthRule}
-use Rattle.keys.specs.Key.{isSmall, isResidue, inRange, second, relation, counted, hasCounts, rightCounts, properKey, keyTestOf, keyTest}
+use Rattle.keys.specs.Key.{isSmall, isResidue, inRange, second, relation, counted, hasCounts, rightCounts, properKey, keyTest}
 use Rattle.keys.proofs.Ranges.{f-small, g-small, a-residues}
 use Rattle.keys.proofs.Counts.{counts-short, counts-length, proper-by-relation, improper-by-counts}
 use Rattle.choices.specs.Choices.{choices}
@@ -36,10 +34,10 @@ use Rattle.record_forms.specs.Sections.{Fetched, fetched, sectionOf}
 use Rattle.records.specs.Signatures.{Signature, refusalOf}
 use Rattle.records.specs.Writer.{writingFor, writingOf}
 use Rattle.records.specs.Reader.{Found, found, readingFor, readingOf}
-use Rattle.promises.specs.Counts.{Counts, KeyPasses, KeyLength, KeyWithinLimit, largestFirst, LimitReached, NotTooLong, NoKeyTooLong}
+use Rattle.promises.specs.Counts.{Counts, KeyPasses, KeyLength, KeyWithinLimit, largestFirst, LimitReached, NoKeyTooLong}
 use Rattle.promises.proofs.Keys.{key-counts, key-related, key-tested-some}
 use Rattle.promises.proofs.Agreement.{sized-yes}
-use Rattle.promises.proofs.Refusals.{Holds, must-either, set-either, ways, Late, late-rule, filledAnswer, restsAnswer, foundAnswer, respondedAnswer}
+use Rattle.promises.proofs.Refusals.{Holds, must-either, set-either, ways, late-rule, filledAnswer, restsAnswer, foundAnswer, respondedAnswer}
 
 -- ---- the rest is zero
 
