@@ -54,9 +54,15 @@
  *
  * SETS
  *
- *   On calls `set` is 1 to 4 for BLISS-B I to IV; 0 stands for set 1. bursztok_kappa and
- *   bursztok_record_bytes tell kappa and the bytes of a record, for callers that hold no table. f
- *   and g each have d1 coefficients of 1 or -1 and d2 of 2 or -2, the rest zero.
+ *   On calls `set` is 1 to 4 for BLISS-B I to IV. 0 stands for set 4, on every call but the two
+ *   whose names end in _default_one. bursztok_kappa and bursztok_record_bytes tell kappa and the
+ *   bytes of a record, for callers that hold no table. f and g each have d1 coefficients of 1 or -1
+ *   and d2 of 2 or -2, the rest zero.
+ *
+ *   Before version 0.4.0 a set of 0 stood for set 1. A caller that passes 0 for sheets of set 1 is
+ *   now refused with 5 by bursztok_rebuild and bursztok_compare, since 23 places are not 39. It
+ *   names set 1, or calls bursztok_rebuild_default_one and bursztok_compare_default_one: with them
+ *   0 stands for set 1, and in all else they are the other two.
  *
  *    set  kappa   d   p  largest   B2 squared     K   d1  d2  record bytes
  *     1     23   10  24     2100  165,688,384   775  154   0          1606
@@ -94,7 +100,7 @@ extern "C" {
 #endif
 
 /* The version of this header and of the library that it belongs to. */
-#define BURSZTOK_VERSION "0.3.0"
+#define BURSZTOK_VERSION "0.4.0"
 
 /* The length of every vector. */
 #define BURSZTOK_VECTOR 512
@@ -108,7 +114,8 @@ extern "C" {
 /* The stack that a call takes at most, in bytes: see STATE, THREADS, STACK. */
 #define BURSZTOK_STACK_RESPOND 11300
 #define BURSZTOK_STACK_KEY_TEST 5800
-#define BURSZTOK_STACK_REBUILD 3900
+/* With default one too. */
+#define BURSZTOK_STACK_REBUILD 4000
 #define BURSZTOK_STACK_READ 3000
 /* With rests too. */
 #define BURSZTOK_STACK_COMMITMENT 2800
@@ -235,6 +242,19 @@ bursztok_answer bursztok_rebuild(uint32_t set,
                                  uint16_t *out, size_t out_len);
 
 /*
+ * The rebuild that keeps the default of before 0.4.0: a set of 0 becomes 1, and bursztok_rebuild is
+ * called. So with 0 it is bursztok_rebuild with 1, with any other number the same with that number.
+ *
+ * Refusals in order: 1, 2, 3, 5, 10, 11. Number 0 writes all of out (512 entries).
+ */
+bursztok_answer bursztok_rebuild_default_one(uint32_t set,
+                                             const uint16_t *a, size_t a_len,
+                                             const int16_t *z1, size_t z1_len,
+                                             const int8_t *z2, size_t z2_len,
+                                             const uint16_t *list, size_t list_len,
+                                             uint16_t *out, size_t out_len);
+
+/*
  * The comparison of the list that a signature claims with the list that the caller hashed.
  *
  * Refusals in order: 1, 5 (either list), 12. Writes nothing.
@@ -244,10 +264,20 @@ bursztok_answer bursztok_compare(uint32_t set,
                                  const uint16_t *hashed, size_t hashed_len);
 
 /*
+ * The comparison that keeps the default of before 0.4.0: a set of 0 becomes 1, and bursztok_compare
+ * is called.
+ *
+ * Refusals in order: 1, 5 (either list), 12. Writes nothing.
+ */
+bursztok_answer bursztok_compare_default_one(uint32_t set,
+                                             const uint16_t *claimed, size_t claimed_len,
+                                             const uint16_t *hashed, size_t hashed_len);
+
+/*
  * The record writer.
  *
  * Refusals in order: 1, 2, 5, 10, 11, 14. Number 0 writes the first bytes of out, as many as the
- * set's record has (see SETS); a longer out keeps its tail. A set of 0 is written as 1.
+ * set's record has (see SETS); a longer out keeps its tail. A set of 0 is written as 4.
  */
 bursztok_answer bursztok_write(uint32_t set,
                                const int16_t *z1, size_t z1_len,
@@ -285,12 +315,12 @@ bursztok_part bursztok_list_section(const uint8_t *record, size_t record_len,
 
 /*
  * kappa, the count of places in a list, of the set that a number stands for on a call: 23, 23, 30,
- * 39 for 1 to 4, 23 for 0, which stands for set 1, and 0 for any other number, which is no set.
+ * 39 for 1 to 4, 39 for 0, which stands for set 4, and 0 for any other number, which is no set.
  */
 uint32_t bursztok_kappa(uint32_t set);
 
 /*
- * The bytes of a record of that set: 1606, 1606, 1620, 1638 for 1 to 4, 1606 for 0, and 0 for a
+ * The bytes of a record of that set: 1606, 1606, 1620, 1638 for 1 to 4, 1638 for 0, and 0 for a
  * number that is no set.
  */
 uint32_t bursztok_record_bytes(uint32_t set);

@@ -152,6 +152,20 @@ static void compare(void)
     number = bursztok_compare(set, list, kappa, list, kappa).number;
 }
 
+/* The two with default one are asked for set 1 with 0. */
+static void rebuild_default_one(void)
+{
+    number = bursztok_rebuild_default_one(set == 1 ? 0 : set, a, BURSZTOK_VECTOR, z1,
+                                          BURSZTOK_VECTOR, z2, BURSZTOK_VECTOR, list, kappa,
+                                          rounded, BURSZTOK_VECTOR)
+                 .number;
+}
+
+static void compare_default_one(void)
+{
+    number = bursztok_compare_default_one(set == 1 ? 0 : set, list, kappa, list, kappa).number;
+}
+
 static void write_record(void)
 {
     number = bursztok_write(set, z1, BURSZTOK_VECTOR, z2, BURSZTOK_VECTOR, list, kappa, record,
@@ -196,6 +210,8 @@ static const struct row rows[] = {
     {"bursztok_respond", respond, BURSZTOK_STACK_RESPOND},
     {"bursztok_rebuild", rebuild, BURSZTOK_STACK_REBUILD},
     {"bursztok_compare", compare, BURSZTOK_STACK_OTHER},
+    {"bursztok_rebuild_default_one", rebuild_default_one, BURSZTOK_STACK_REBUILD},
+    {"bursztok_compare_default_one", compare_default_one, BURSZTOK_STACK_OTHER},
     {"bursztok_write", write_record, BURSZTOK_STACK_WRITE},
     {"bursztok_read", read_record, BURSZTOK_STACK_READ},
     {"bursztok_z1_section", z1_section, BURSZTOK_STACK_OTHER},

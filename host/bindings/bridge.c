@@ -104,8 +104,14 @@ static reply answer(uint32_t call, uint32_t set, bool sign, uint32_t *written)
         return told(bursztok_commitment_with_rests(set, ENTRIES(0, const uint16_t), ENTRIES(1, const int16_t),
                                                    ENTRIES(2, const int16_t), ENTRIES(3, uint16_t), ENTRIES(4, int16_t)));
     case 12:
-        return (reply){ bursztok_kappa(set), 0, 0, 0 };
+        *written = 1;
+        return told(bursztok_rebuild_default_one(set, ENTRIES(0, const uint16_t), ENTRIES(1, const int16_t),
+                                                 ENTRIES(2, const int8_t), ENTRIES(3, const uint16_t), ENTRIES(4, uint16_t)));
     case 13:
+        return told(bursztok_compare_default_one(set, ENTRIES(0, const uint16_t), ENTRIES(1, const uint16_t)));
+    case 14:
+        return (reply){ bursztok_kappa(set), 0, 0, 0 };
+    case 15:
         return (reply){ bursztok_record_bytes(set), 0, 0, 0 };
     default:
         exit(1);

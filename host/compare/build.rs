@@ -2,7 +2,7 @@
 //! the C library goes to its `__wrap_` function, which reaches the call itself as `__real_`.
 
 /// The calls of `include/bursztok.h`.
-const CALLS: [&str; 13] = [
+const CALLS: [&str; 15] = [
     "key_test",
     "commitment",
     "respond",
@@ -14,6 +14,8 @@ const CALLS: [&str; 13] = [
     "z2_section",
     "list_section",
     "commitment_with_rests",
+    "rebuild_default_one",
+    "compare_default_one",
     "kappa",
     "record_bytes",
 ];

@@ -1,16 +1,14 @@
 -- The checker says yes to whatever the response gives out, the writer and the reader included. Assumes nothing.
 use mathlib.Core.Path.{_≡_, refl, sym, ap, _∙_}
-use mathlib.Core.Bool.{true, _&&_}
+use mathlib.Core.Bool.{true}
 use mathlib.Core.List.{List, _++_}
-use Prim.Native.Nat.{ℕ, zero, _≤_}
-use borrow.Author.Tests.{eq-eqb, le-leb}
+use Prim.Native.Nat.{ℕ, zero}
 use lib.IntN.{ℤ, pos}
 use lib.ListN.{length, take, drop, replicate, length-replicate}
 use lib.Seq.{take-at}
 use Rattle.laws.proofs.Loops.{is-same}
 use Rattle.sets.specs.declared.Set.{Set}
-use Rattle.sets.specs.declared.Asked.the-variants.{Known}
-use Rattle.sets.specs.Numbers.{dimension, listLimit, kappaOf, totalOf, setNumberOf, askedOf}
+use Rattle.sets.specs.Numbers.{dimension, listLimit, kappaOf, totalOf, setNumberOf}
 use Rattle.sets.proofs.Alike.{asked-back}
 use Rattle.answers.specs.declared.Outcome.{Outcome}
 use Rattle.answers.specs.declared.Outcome.the-variants.{Done}
@@ -18,31 +16,17 @@ use Rattle.answers.specs.Outcomes.{Filled, filled}
 use Rattle.answers.proofs.Calls.{zero-is}
 use Rattle.vectors.specs.Places.{properList}
 use Rattle.vectors.proofs.Rising.{proper-count}
-use Rattle.limits.specs.LengthRule.{lengthRule}
 use Rattle.commitment.specs.Commitment.{committed, commitment}
 use Rattle.signing.specs.Response.{responded, response}
-use Rattle.checking.specs.Checking.{Claim, claim, rebuild}
-use Rattle.records.specs.Signatures.{signature, recordOf, refusalOf}
-use Rattle.records.specs.Writer.{writingFor, writingOf}
+use Rattle.checking.specs.Checking.{claim, rebuild}
+use Rattle.records.specs.Signatures.{signature, recordOf}
 use Rattle.records.specs.Reader.{found, readingOf}
 use Rattle.records.proofs.RoundTrip.{written-reads, read-done}
 use Rattle.promises.specs.Demands.{Fills}
 use Rattle.promises.proofs.Signatures.{given-out}
-use Rattle.promises.proofs.Agreement.{z-first, daggers-512, given-out-is-accepted, same-list}
+use Rattle.promises.proofs.Agreement.{given-out-is-accepted, given-out-is-written, same-list}
+use Rattle.promises.proofs.Defaults.{same-calls}
 use Rattle.agreement.specs.Accepted.{fills, rebuilds, readRebuilds, accepted, SaysYes}
-
--- the writer, where nothing is to be refused
-writes-done : (set : ℕ) (s : Set) (z1 z2 : List ℤ) (l out : List ℕ) → askedOf set ≡ Known s → length z1 ≡ dimension → length z2 ≡ dimension
-    → properList s l ≡ true → lengthRule s z1 z2 ≡ Done → totalOf s ≤ length out
-    → writingOf set z1 z2 l out ≡ filled Done (recordOf (signature s z1 z2 l) ++ drop (totalOf s) out)
-unfolding writingOf writingFor refusalOf
-writes-done set s z1 z2 l out known l1 l2 proper rule room = rw (known, eq-eqb _ _ l1, eq-eqb _ _ l2, proper, rule, le-leb _ _ room)
-
--- the set's own number, which the reader answers, stands for it
-by-number : (set : ℕ) (s : Set) (a : List ℕ) (c : Claim) (old : List ℕ) → askedOf set ≡ Known s
-    → rebuild (setNumberOf s) a c old ≡ rebuild set a c old
-unfolding rebuild
-by-number set s a c old known = rw (known, asked-back s)
 
 fills-done : {x : Filled} {vector : List ℕ} → Fills x vector → x ≡ filled Done vector
 fills-done h = h .1 ∙ ap (λ (p : Outcome). filled p _) (zero-is (h .0) (h .2))
@@ -69,16 +53,12 @@ says-yes set c o count z1 z2 s before out e number known lb room =
     let done : response set c ≡ responded Done count z1 z2 = e ∙ ap (λ (p : Outcome). responded p count z1 z2) (zero-is o number) in
     let given = given-out c count z1 z2 set done in
     let own : given .0 ≡ s = let asked = given .1 in cc in
-    let passed = given .2 in
     let zeros : List ℕ = replicate dimension zero in
     let vectors = given-out-is-accepted set c o count z1 z2 before zeros e number lb (length-replicate dimension zero) in
     let same-set : vectors .0 ≡ s = let asked = vectors .1 in cc in
     let commits : Fills (commitment set (c .a) (c .y1) (c .y2) before) (committed s (c .a) (c .y1) (c .y2)) = rw same-set at (vectors .2) in
     let restores : Fills (rebuild set (c .a) (claim z1 z2 (c .list)) zeros) (committed s (c .a) (c .y1) (c .y2)) = rw same-set at (vectors .3) in
-    let out-given = given .3 in
-    let writes =
-    writes-done set s z1 z2 (c .list) out known (ap length (out-given .first) ∙ z-first (given .0) c passed)
-    (ap length (out-given .dagger) ∙ daggers-512 (given .0) c passed) (rw own at (passed .list)) (rw own at (out-given .rule)) room in
+    let writes = given-out-is-written set s c o count z1 z2 out e number known room in
     let after : List ℕ = recordOf (signature s z1 z2 (c .list)) ++ drop (totalOf s) out in
     let back = written-reads set z1 z2 (c .list) out Done after refl writes in
     let same : back .s ≡ s = let asked = back .asked in cc in
@@ -88,7 +68,7 @@ says-yes set c o count z1 z2 s before out e number known lb room =
       after,
       commits,
       (Done, writes, refl),
-      yes s (c .a) (take (totalOf s) after) (committed s (c .a) (c .y1) (c .y2)) z1 z2 (c .list) (rw own at (passed .list))
+      yes s (c .a) (take (totalOf s) after) (committed s (c .a) (c .y1) (c .y2)) z1 z2 (c .list) (rw own at (given .2 .list))
           (read-done (rw same at (back .reads blank blank places blank-512 blank-512 (length-replicate listLimit zero))))
-          (by-number set s (c .a) (claim z1 z2 (c .list)) zeros known ∙ fills-done restores),
+          (same-calls (setNumberOf s) set (asked-back s ∙ sym known) .rebuilds (c .a) (claim z1 z2 (c .list)) zeros ∙ fills-done restores),
     )

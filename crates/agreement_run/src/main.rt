@@ -58,7 +58,7 @@ fn every_set() {
     run(b"set 3, masks 100 and -120", masked(3, 100, -120));
     run(b"set 4, masks -123 and -222", masked(4, -123, -222));
     run(
-        b"set 0, which stands for 1, masks -301 and 203",
+        b"set 0, which stands for 4, masks -301 and 203",
         masked(0, -301, 203),
     );
 }

@@ -17,6 +17,8 @@ use Rattle.bursztok.proofs.bursztok_commitment_with_rests.Reads as with
 use Rattle.bursztok.proofs.bursztok_respond.Reads as respond
 use Rattle.bursztok.proofs.bursztok_rebuild.Reads as rebuild
 use Rattle.bursztok.proofs.bursztok_compare.Reads as compare
+use Rattle.bursztok.proofs.bursztok_rebuild_default_one.Reads as rebuild-default-one
+use Rattle.bursztok.proofs.bursztok_compare_default_one.Reads as compare-default-one
 use Rattle.bursztok.proofs.bursztok_write.Reads as write
 use Rattle.bursztok.proofs.bursztok_read.Reads as read
 use Rattle.bursztok.proofs.bursztok_z1_section.Reads as z1-section
@@ -67,6 +69,13 @@ rebuild-determined κs a r r′ s s′ p q = one-left _ p q
 
 pub compare-determined : (κs : Lfts 2) (a : _) (r r′ : _) (s s′ : _) → compare.Post κs a r s → compare.Post κs a r′ s′ → r ≡ r′
 compare-determined κs a r r′ s s′ p q = p ∙ sym q
+
+pub rebuild-default-one-determined : (κs : Lfts 5) (a : _) (r r′ : _) (s s′ : _) → rebuild-default-one.Post κs a r s → rebuild-default-one.Post κs a r′ s′
+    → (r ≡ r′) × (now (rebuild-out s) ≡ now (rebuild-out s′))
+rebuild-default-one-determined κs a r r′ s s′ p q = one-left _ p q
+
+pub compare-default-one-determined : (κs : Lfts 2) (a : _) (r r′ : _) (s s′ : _) → compare-default-one.Post κs a r s → compare-default-one.Post κs a r′ s′ → r ≡ r′
+compare-default-one-determined κs a r r′ s s′ p q = p ∙ sym q
 
 -- the answer and the output
 pub write-determined : (κs : Lfts 4) (a : _) (r r′ : _) (s s′ : _) → write.Post κs a r s → write.Post κs a r′ s′

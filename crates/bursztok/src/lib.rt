@@ -4,7 +4,7 @@ ghost use Rattle.answers.specs.Sizes.{kappaAsked, recordBytesAsked};
 ghost use Rattle.keys.specs.Key.{keyTest};
 ghost use Rattle.commitment.specs.Commitment.{commitment, outputs, commitmentWithRests};
 ghost use Rattle.signing.specs.Response.{response};
-ghost use Rattle.checking.specs.Checking.{claim, rebuild, comparison};
+ghost use Rattle.checking.specs.Checking.{claim, rebuild, rebuildDefaultOne, comparison, comparisonDefaultOne};
 ghost use Rattle.record_forms.specs.Sections.{z1Section, z2Section, listSection};
 ghost use Rattle.records.specs.Writer.{writingOf};
 ghost use Rattle.records.specs.Reader.{readingOf};
@@ -131,6 +131,28 @@ pub extern "C" fn bursztok_compare(set: u32, claimed: &[u16], hashed: &[u16]) ->
     ensures { λ r. ⌜ r ≡ answerOf (comparison set (now (claimed .entry)) (now (hashed .entry))) ⌝ }
 {
     answered(checking::comparison(set, claimed, hashed))
+}
+
+// The rebuild and the comparison that keep the old default: 0 stands for set 1 (02, C-17).
+#[no_mangle]
+pub extern "C" fn bursztok_rebuild_default_one(
+    set: u32,
+    a: &[u16],
+    z1: &[i16],
+    z2: &[i8],
+    list: &[u16],
+    out: &mut [u16],
+) -> Answer
+    ensures { λ r. ⌜ left r (now (out .exit)) ≡ leftBy (rebuildDefaultOne set (now (a .entry)) (claim (now (z1 .entry)) (now (z2 .entry)) (now (list .entry))) (now (out .entry))) ⌝ }
+{
+    answered(checking::rebuild_default_one(set, a, z1, z2, list, out))
+}
+
+#[no_mangle]
+pub extern "C" fn bursztok_compare_default_one(set: u32, claimed: &[u16], hashed: &[u16]) -> Answer
+    ensures { λ r. ⌜ r ≡ answerOf (comparisonDefaultOne set (now (claimed .entry)) (now (hashed .entry))) ⌝ }
+{
+    answered(checking::comparison_default_one(set, claimed, hashed))
 }
 
 #[no_mangle]

@@ -6,7 +6,7 @@ use lib.IntN.{ℤ, pos}
 use Rattle.laws.specs.Lists.{every, same, zipWith, tabulate}
 use Rattle.laws.specs.Refusals.{must}
 use Rattle.sets.specs.declared.Set.{Set}
-use Rattle.sets.specs.Numbers.{dimension, modulus, askedOf}
+use Rattle.sets.specs.Numbers.{dimension, modulus, askedOf, defaultOne}
 use Rattle.answers.specs.declared.Outcome.{Outcome}
 use Rattle.answers.specs.declared.Outcome.the-variants.{Done, UnknownSet, WrongLength, CoefficientOutside, ImproperList, ListsDiffer}
 use Rattle.answers.specs.Outcomes.{unless, forSet, Filled, filled}
@@ -47,6 +47,10 @@ rebuildFor s a c out =
 unfoldable pub rebuild : ℕ → List ℕ → Claim → List ℕ → Filled
 rebuild set a c out = forSet (askedOf set) (filled UnknownSet out) (λ s. rebuildFor s a c out)
 
+-- the rebuild that keeps the old default (02, C-17): a number 0 becomes 1, and the call is made
+abbrev pub rebuildDefaultOne : ℕ → List ℕ → Claim → List ℕ → Filled
+rebuildDefaultOne set a c out = rebuild (defaultOne set) a c out
+
 -- the comparison for a set: 5, 12
 abbrev pub comparisonFor : Set → List ℕ → List ℕ → Outcome
 comparisonFor s claimed hashed =
@@ -57,3 +61,7 @@ comparisonFor s claimed hashed =
 -- the comparison: 1, 5, 12
 unfoldable pub comparison : ℕ → List ℕ → List ℕ → Outcome
 comparison set claimed hashed = forSet (askedOf set) UnknownSet (λ s. comparisonFor s claimed hashed)
+
+-- the comparison that keeps the old default (02, C-17)
+abbrev pub comparisonDefaultOne : ℕ → List ℕ → List ℕ → Outcome
+comparisonDefaultOne set claimed hashed = comparison (defaultOne set) claimed hashed

@@ -10,7 +10,7 @@ ghost use Rattle.answers.specs.Outcomes.{filled};
 ghost use Rattle.rounding.specs.Rounding.{restored};
 ghost use Rattle.vectors.specs.Places.{isPlace, properList};
 ghost use Rattle.commitment.specs.Commitment.{isReduced};
-ghost use Rattle.checking.specs.Checking.{claim, marks, rebuilt, rebuild as rebuildOf, rebuildFor, comparison as comparisonOf, comparisonFor};
+ghost use Rattle.checking.specs.Checking.{claim, marks, rebuilt, rebuild as rebuildOf, rebuildFor, rebuildDefaultOne, comparison as comparisonOf, comparisonFor, comparisonDefaultOne};
 use answers::Outcome;
 use sets::Asked;
 use sets::Set;
@@ -23,6 +23,21 @@ pub fn rebuild(set: u32, a: &[u16], z1: &[i16], z2: &[i8], list: &[u16], out: &m
         Asked::Unknown => Outcome::UnknownSet,
         Asked::Known(s) => rebuild_for(s, a, z1, z2, list, out),
     }
+}
+
+// The rebuild that keeps the old default: 0 stands for set 1 (02, C-17).
+pub fn rebuild_default_one(
+    set: u32,
+    a: &[u16],
+    z1: &[i16],
+    z2: &[i8],
+    list: &[u16],
+    out: &mut [u16],
+) -> Outcome
+    ensures { λ r. ⌜ filled r (now (out .exit)) ≡ rebuildDefaultOne set (now (a .entry)) (claim (now (z1 .entry)) (now (z2 .entry)) (now (list .entry))) (now (out .entry)) ⌝ }
+{
+    let named = Set::default_one(set);
+    rebuild(named, a, z1, z2, list, out)
 }
 
 fn rebuild_for(s: Set, a: &[u16], z1: &[i16], z2: &[i8], list: &[u16], out: &mut [u16]) -> Outcome
@@ -90,6 +105,14 @@ pub fn comparison(set: u32, claimed: &[u16], hashed: &[u16]) -> Outcome
         Asked::Unknown => Outcome::UnknownSet,
         Asked::Known(s) => comparison_for(s, claimed, hashed),
     }
+}
+
+// The comparison that keeps the old default: 0 stands for set 1 (02, C-17).
+pub fn comparison_default_one(set: u32, claimed: &[u16], hashed: &[u16]) -> Outcome
+    ensures { λ r. ⌜ r ≡ comparisonDefaultOne set (now (claimed .entry)) (now (hashed .entry)) ⌝ }
+{
+    let named = Set::default_one(set);
+    comparison(named, claimed, hashed)
 }
 
 fn comparison_for(s: Set, claimed: &[u16], hashed: &[u16]) -> Outcome

@@ -1,14 +1,15 @@
 // The comparison.
 ghost use Prim.Native.Nat.{_<_};
 use bursztok::bursztok_compare;
+use bursztok::bursztok_compare_default_one;
 use lending::rows;
 use lending::show;
 
 pub fn run() {
     show::heading(b"comparison of 0, 1, 2, .. with itself, changed");
     claimed(b"set 1, the same", 1, 23, 0, 0);
-    claimed(b"set 0, the same", 0, 23, 0, 0);
     claimed(b"set 4, the same", 4, 39, 0, 0);
+    claimed(b"set 0, which stands for 4, the same", 0, 39, 0, 0);
     claimed(b"set 4, 23 places", 4, 23, 0, 0);
     claimed(b"set 1, last place 30", 1, 23, 22, 30);
     claimed(b"set 1, last place 511", 1, 23, 22, 511);
@@ -24,6 +25,30 @@ pub fn run() {
     hashed(b"last place 512", 23, 22, 512);
     hashed(b"22 places", 22, 0, 0);
     hashed(b"24 places", 24, 0, 0);
+    default_one();
+}
+
+// A list of set 1 with 0: the comparison, and the one that keeps the old default.
+fn default_one() {
+    show::heading(b"comparison and comparison with default one, 0, 1, 2, .. with itself");
+    both(b"set 0, 23 places", 0, 23, 23);
+    both(b"set 1, 23 places", 1, 23, 23);
+    both(b"set 0, 39 places", 0, 39, 39);
+    both(b"set 4, 39 places", 4, 39, 39);
+    both(b"set 0, 23 and 22 places", 0, 23, 22);
+    both(b"set 0, 22 and 23 places", 0, 22, 23);
+    both(b"set 5, 23 places", 5, 23, 23);
+}
+
+fn both(text: &[u8], set: u32, count: usize, other: usize) {
+    let list = rows::places(0, 0);
+    let claimed = lending::first_whole(&list, count);
+    let hashed = lending::first_whole(&list, other);
+    show::answer(text, bursztok_compare(set, claimed, hashed));
+    show::answer(
+        b"  with default one",
+        bursztok_compare_default_one(set, claimed, hashed),
+    );
 }
 
 // The claimed list has so many places, one of them changed.
@@ -32,7 +57,7 @@ fn claimed(text: &[u8], set: u32, count: usize, at: usize, place: u16)
 {
     let list = rows::places(at, place);
     let other = rows::places(0, 0);
-    let kappa: usize = if set == 4 { 39 } else { 23 };
+    let kappa = bursztok::bursztok_kappa(set) as usize;
     let claimed = lending::first_whole(&list, count);
     let hashed = lending::first_whole(&other, kappa);
     show::answer(text, bursztok_compare(set, claimed, hashed));

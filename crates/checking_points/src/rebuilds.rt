@@ -7,10 +7,17 @@ use sets::Set;
 pub fn run() {
     show::heading(b"rebuild, a = 1, list 0, 1, 2, ..");
     signature(b"set 1, z1 = -1 at 0 to 22, z2 dagger 0", 1, 23, -1, 0);
-    signature(b"set 0, the same", 0, 23, -1, 0);
+    signature(
+        b"set 0, the same: the 23 places are not the 39 of set 4",
+        0,
+        23,
+        -1,
+        0,
+    );
     signature(b"set 1, z1 = 0: 12289 at each listed place", 1, 23, 0, 0);
     signature(b"set 3, z1 = 0", 3, 30, 0, 0);
     signature(b"set 4, z1 = 0", 4, 39, 0, 0);
+    signature(b"set 0, which stands for 4, the same", 0, 39, 0, 0);
     signature(
         b"set 1, z1 = -1 at 0 to 22, z2 dagger -1 at 0 to 22",
         1,
@@ -19,11 +26,39 @@ pub fn run() {
         -1,
     );
     signature(b"set 5", 5, 23, 0, 0);
+    default_one();
     largest();
     sums();
     improper();
     lengths();
     faults();
+}
+
+// The rebuild that keeps the old default, for the desk that passes 0 for sheets of set 1.
+fn default_one() {
+    show::heading(b"rebuild with default one, a = 1, list 0, 1, 2, ..");
+    kept(b"set 0, z1 = -1 at 0 to 22", 0, 23, 512, -1);
+    kept(b"set 1, the same", 1, 23, 512, -1);
+    kept(b"set 0, 39 places, z1 = 0", 0, 39, 512, 0);
+    kept(b"set 4, the same", 4, 39, 512, 0);
+    kept(b"set 3, 30 places, z1 = 0", 3, 30, 512, 0);
+    kept(b"set 0, z1 = 2101 at 0 to 22", 0, 23, 512, 2101);
+    kept(b"set 0, output 511 long, 39 places", 0, 39, 511, 0);
+    kept(b"set 5, output 511 long", 5, 23, 511, 0);
+}
+
+fn kept(text: &[u8], set: u32, kappa: usize, out_len: usize, z1_all: i16)
+    requires { ⌜ kappa ≤ 40 ⌝ }
+{
+    let mut a = [0u16; Set::DIMENSION];
+    let z1 = rows::wide(kappa, z1_all);
+    let z2 = [0i8; Set::DIMENSION];
+    let places = rows::places(0, 0);
+    let list = lending::first_whole(&places, kappa);
+    let mut out = [show::OLD; 513];
+    a[0] = 1;
+    let r = lending::rebuild_default_one(set, &a, &z1, &z2, list, &mut out, out_len);
+    show::filled(text, r, &out);
 }
 
 // Entries at and one past "largest".

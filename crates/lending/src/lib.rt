@@ -132,6 +132,19 @@ pub fn rebuild(
     bursztok::bursztok_rebuild(set, a, z1, z2, list, &mut out[..lent])
 }
 
+pub fn rebuild_default_one(
+    set: u32,
+    a: &[u16],
+    z1: &[i16],
+    z2: &[i8],
+    list: &[u16],
+    out: &mut [u16],
+    count: usize,
+) -> Answer {
+    let lent = least(count, out.len());
+    bursztok::bursztok_rebuild_default_one(set, a, z1, z2, list, &mut out[..lent])
+}
+
 pub fn write(
     set: u32,
     z1: &[i16],

@@ -1,12 +1,12 @@
 -- Demand 3. Assumes nothing.
 use mathlib.Core.Path.{_≡_, refl, sym, ap, ap₂, _∙_}
 use mathlib.Core.Bool.{Bool, true, false, not, cond}
-use mathlib.Core.List.{List, map}
-use Prim.Native.Nat.{ℕ, _<_}
+use mathlib.Core.List.{List, _++_, map}
+use Prim.Native.Nat.{ℕ, _<_, _≤_}
 use native.Mathlib.Omega.{arith}
-use borrow.Author.Tests.{eq-eqb}
+use borrow.Author.Tests.{eq-eqb, le-leb}
 use lib.IntN.{ℤ, pos, _-ℤ_, _*ℤ_}
-use lib.ListN.{length, getD, length-map}
+use lib.ListN.{length, getD, drop, length-map}
 use lib.Seq.{ext-getD}
 use Rattle.laws.specs.Integers.{residue}
 use Rattle.laws.specs.Lists.{every, zipWith}
@@ -15,7 +15,7 @@ use Rattle.laws.proofs.Loops.{is-same}
 use Rattle.laws.proofs.Entries.{length-zipWith, getD-zipWith, getD-map}
 use Rattle.sets.specs.declared.Set.{Set}
 use Rattle.sets.specs.declared.Asked.the-variants.{Known}
-use Rattle.sets.specs.Numbers.{dimension, modulus, twiceModulus, places, askedOf}
+use Rattle.sets.specs.Numbers.{dimension, modulus, twiceModulus, places, totalOf, askedOf}
 use Rattle.answers.specs.declared.Outcome.{Outcome}
 use Rattle.answers.specs.declared.Outcome.the-variants.{Done}
 use Rattle.answers.specs.Outcomes.{numberOf, filled}
@@ -41,6 +41,8 @@ use Rattle.signing.specs.Response.{Lent, secret, responded, responseFor, respon
 use Rattle.signing.proofs.Ways.{are-sized}
 use Rattle.checking.specs.Checking.{claim, marks, rebuilt, rebuild, comparison}
 use Rattle.checking.proofs.Marks.{length-marks, getD-marks}
+use Rattle.records.specs.Signatures.{signature, recordOf, refusalOf}
+use Rattle.records.specs.Writer.{writingFor, writingOf}
 use Rattle.promises.specs.Demands.{ResponseLength, GivenOutIsAccepted, ReachesTheDraw, Demand3}
 use Rattle.promises.proofs.Keys.{key-carries, key-sized, passing, second-parity}
 use Rattle.promises.proofs.Sums.{sums-at}
@@ -164,6 +166,13 @@ module _ (set : ℕ) (s : Set) (known : askedOf set ≡ Known s) (a : List ℕ) 
   rebuild-done z1 z2 l out lz1 lz2 lo proper rule =
       rw (known, sized-yes a la, sized-yes z1 lz1, sized-yes z2 lz2, sized-yes out lo, residues, proper, rule)
 
+-- the writer, where nothing is to be refused
+writes-done : (set : ℕ) (s : Set) (z1 z2 : List ℤ) (l out : List ℕ) → askedOf set ≡ Known s → length z1 ≡ dimension → length z2 ≡ dimension
+    → properList s l ≡ true → lengthRule s z1 z2 ≡ Done → totalOf s ≤ length out
+    → writingOf set z1 z2 l out ≡ filled Done (recordOf (signature s z1 z2 l) ++ drop (totalOf s) out)
+unfolding writingOf writingFor refusalOf
+writes-done set s z1 z2 l out known l1 l2 proper rule room = rw (known, eq-eqb _ _ l1, eq-eqb _ _ l2, proper, rule, le-leb _ _ room)
+
 -- ---- the second sentence
 pub given-out-is-accepted : GivenOutIsAccepted
 given-out-is-accepted set c o count z1 z2 before old e zero lb lo =
@@ -186,6 +195,18 @@ given-out-is-accepted set c o count z1 z2 before old e zero lb lo =
         refl,
       ),
     )
+
+-- the writer makes its record
+pub given-out-is-written : (set : ℕ) (s : Set) (c : Lent) (o : Outcome) (count : ℕ) (z1 z2 : List ℤ) (out : List ℕ) → response set c ≡ responded o count z1 z2
+    → numberOf o ≡ 0 → askedOf set ≡ Known s → totalOf s ≤ length out
+    → writingOf set z1 z2 (c .list) out ≡ filled Done (recordOf (signature s z1 z2 (c .list)) ++ drop (totalOf s) out)
+given-out-is-written set s c o count z1 z2 out e zero known room =
+    let given = given-out c count z1 z2 set (e ∙ ap (λ (p : Outcome). responded p count z1 z2) (zero-is o zero)) in
+    let own : given .0 ≡ s = let asked = given .1 in cc in
+    let passed = given .2 in
+    let sent = given .3 in
+    writes-done set s z1 z2 (c .list) out known (ap length (sent .first) ∙ z-first (given .0) c passed) (ap length (sent .dagger) ∙ daggers-512 (given .0) c passed)
+    (rw own at (passed .list)) (rw own at (sent .rule)) room
 
 -- ---- the premises of both
 pub reaches-the-draw : ReachesTheDraw

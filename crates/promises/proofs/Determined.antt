@@ -17,6 +17,8 @@ use Rattle.commitment.proofs.commitment_with_rests.Reads as with-rests
 use Rattle.signing.proofs.respond.Reads as respond
 use Rattle.checking.proofs.rebuild.Reads as rebuild
 use Rattle.checking.proofs.comparison.Reads as comparison
+use Rattle.checking.proofs.rebuild_default_one.Reads as rebuild-default-one
+use Rattle.checking.proofs.comparison_default_one.Reads as comparison-default-one
 
 -- one equation fixes the outcome and the vector
 filled-parts : {o o′ : Outcome} {c c′ : List ℕ} (answer : Filled) → filled o c ≡ answer → filled o′ c′ ≡ answer → (o ≡ o′) × (c ≡ c′)
@@ -55,3 +57,10 @@ rebuild-determined κs a r r′ s s′ p q = filled-parts _ p q
 
 pub comparison-determined : (κs : Lfts 2) (a : _) (r r′ : _) (s s′ : _) → comparison.Post κs a r s → comparison.Post κs a r′ s′ → r ≡ r′
 comparison-determined κs a r r′ s s′ p q = p ∙ sym q
+
+pub rebuild-default-one-determined : (κs : Lfts 5) (a : _) (r r′ : _) (s s′ : _) → rebuild-default-one.Post κs a r s → rebuild-default-one.Post κs a r′ s′
+    → (r ≡ r′) × (now (rebuild-out s) ≡ now (rebuild-out s′))
+rebuild-default-one-determined κs a r r′ s s′ p q = filled-parts _ p q
+
+pub comparison-default-one-determined : (κs : Lfts 2) (a : _) (r r′ : _) (s s′ : _) → comparison-default-one.Post κs a r s → comparison-default-one.Post κs a r′ s′ → r ≡ r′
+comparison-default-one-determined κs a r r′ s s′ p q = p ∙ sym q

@@ -13,6 +13,7 @@ use Rattle.laws.specs.Refusals.{must}
 use Rattle.sets.specs.declared.Set.{Set}
 use Rattle.sets.specs.declared.Asked.{Asked}
 use Rattle.sets.specs.declared.Asked.the-variants.{Known, Unknown}
+use Rattle.sets.specs.Numbers.{defaultOne}
 use Rattle.answers.specs.declared.Outcome.{Outcome}
 use Rattle.answers.specs.declared.Outcome.the-variants.{Done, DrawRejected, WordMissing, EntryBeyond, SumAbove}
 use Rattle.answers.specs.Outcomes.{numberOf, forSet, Filled, filled}
@@ -30,7 +31,7 @@ use Rattle.record_forms.specs.declared.Header.the-variants.{States, Malformed}
 use Rattle.record_forms.specs.Headers.{opened}
 use Rattle.records.specs.Writer.{writingFor, writingOf}
 use Rattle.records.specs.Reader.{Found, found, readingFor, readingOf}
-use Rattle.promises.specs.Demands.{OnlyDone, CommitmentKeeps, CommitmentWithRestsKeeps, RebuildKeeps, ResponseKeeps, WriterKeeps, ReaderKeeps, ResponseCounts}
+use Rattle.promises.specs.Demands.{OnlyDone, CommitmentKeeps, CommitmentWithRestsKeeps, RebuildKeeps, RebuildDefaultOneKeeps, ResponseKeeps, WriterKeeps, ReaderKeeps, ResponseCounts}
 
 pub only-done : OnlyDone
 only-done = (refl, zero-is)
@@ -110,6 +111,10 @@ rebuild-holds set a c out = search (ways, ends) depth 10
 
 pub rebuild-keeps : RebuildKeeps
 rebuild-keeps set a c out o after e = subst (Keeps filledAnswer filledLeft out) e (rebuild-holds set a c out .is)
+
+-- it is the rebuild with another number
+pub rebuild-default-one-keeps : RebuildDefaultOneKeeps
+rebuild-default-one-keeps set = rebuild-keeps (defaultOne set)
 
 writer-holds : (set : ℕ) (z1 z2 : List ℤ) (l out : List ℕ) → Holds (Keeps filledAnswer filledLeft out) (writingOf set z1 z2 l out)
 unfolding writingOf writingFor

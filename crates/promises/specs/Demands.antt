@@ -19,7 +19,7 @@ use Rattle.commitment.specs.Commitment.{areMasks, committed, commitment, Output
 use Rattle.choices.specs.Choices.{choices}
 use Rattle.masking.specs.Masking.{masked, firstTrial, secondTrial}
 use Rattle.signing.specs.Response.{Lent, secret, drawing, responded, drawn, response}
-use Rattle.checking.specs.Checking.{Claim, claim, rebuild, comparison}
+use Rattle.checking.specs.Checking.{Claim, claim, rebuild, rebuildDefaultOne, comparison}
 use Rattle.records.specs.Writer.{writingOf}
 use Rattle.records.specs.Reader.{found, readingOf}
 
@@ -49,6 +49,14 @@ abbrev pub RebuildKeeps : Type 0
 RebuildKeeps =
     (set : ℕ) (a : List ℕ) (c : Claim) (out : List ℕ) (o : Outcome) (after : List ℕ)
     → rebuild set a c out ≡ filled o after
+    → (numberOf o ≡ 0 → ⊥)
+    → after ≡ out
+
+-- that of the rebuild which keeps the old default
+abbrev pub RebuildDefaultOneKeeps : Type 0
+RebuildDefaultOneKeeps =
+    (set : ℕ) (a : List ℕ) (c : Claim) (out : List ℕ) (o : Outcome) (after : List ℕ)
+    → rebuildDefaultOne set a c out ≡ filled o after
     → (numberOf o ≡ 0 → ⊥)
     → after ≡ out
 

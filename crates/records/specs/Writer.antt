@@ -20,7 +20,7 @@ writingFor g out =
     (must (leb (totalOf (g .set)) (length out)) (filled OutputShort out)
     (filled Done (recordOf g ++ drop (totalOf (g .set)) out)))))
 
--- for the set that the number stands for: called with 0 the writer writes 1
+-- for the set that the number stands for: called with 0 the writer writes 4 (02, C-17)
 unfoldable pub writingOf : ℕ → List ℤ → List ℤ → List ℕ → List ℕ → Filled
 writingOf set z1 z2 list out =
     forSet (askedOf set) (filled UnknownSet out)

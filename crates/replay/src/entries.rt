@@ -64,7 +64,7 @@ fn opens(bytes: &[u8]) -> bool
 
 // One entry: a load, a patch or a call. False where it is none.
 fn entry(fd: i32, memory: &mut [u8], counts: &mut [u32], said: &mut [u32]) -> bool
-    requires { ⌜ (length (now memory) ≡ 38912) × (length (now counts) ≡ 192) ⌝ }
+    requires { ⌜ (length (now memory) ≡ 38912) × (length (now counts) ≡ 224) ⌝ }
 {
     let mut bytes = [0u8; 8];
     let got = io::read_full(fd, &mut bytes);
@@ -132,7 +132,7 @@ fn scaled(width: u8, count: u16) -> usize
 }
 
 fn called(fd: i32, which: u8, memory: &[u8], counts: &mut [u32], said: &mut [u32]) -> bool
-    requires { ⌜ (length (now memory) ≡ 38912) × (length (now counts) ≡ 192) ⌝ }
+    requires { ⌜ (length (now memory) ≡ 38912) × (length (now counts) ≡ 224) ⌝ }
 {
     let mut bytes = [0u8; 28];
     let got = io::read_full(fd, &mut bytes);
@@ -148,9 +148,9 @@ fn called(fd: i32, which: u8, memory: &[u8], counts: &mut [u32], said: &mut [u32
     true
 }
 
-// A call that did as wanted; only calls 1 to 11 do, with numbers below 16.
+// A call that did as wanted; only calls 1 to 13 do, with numbers below 16.
 fn count(which: u8, number: u32, counts: &mut [u32])
-    requires { ⌜ length (now counts) ≡ 192 ⌝ }
+    requires { ⌜ length (now counts) ≡ 224 ⌝ }
 {
     let at = 16 * (which as usize) + (number as usize) % 16;
     if at < tally::COUNTS {
@@ -159,7 +159,7 @@ fn count(which: u8, number: u32, counts: &mut [u32])
 }
 
 fn missed(which: u8, k: Asked, counts: &mut [u32])
-    requires { ⌜ length (now counts) ≡ 192 ⌝ }
+    requires { ⌜ length (now counts) ≡ 224 ⌝ }
 {
     tally::text(b"call ");
     tally::number(which as u64);

@@ -4,19 +4,19 @@ ghost use Prim.Native.Nat.{_<_};
 ghost use lib.ListN.{length};
 use libc::STDOUT_FILENO;
 
-pub const COUNTS: usize = 192;
+pub const COUNTS: usize = 224;
 
 pub fn add(counts: &mut [u32], at: usize)
-    requires { ⌜ (length (now counts) ≡ 192) × (at < 192) ⌝ }
+    requires { ⌜ (length (now counts) ≡ 224) × (at < 224) ⌝ }
 {
     counts[at] = std::num::wrapping_add_u32(counts[at], 1);
 }
 
 pub fn print(counts: &[u32])
-    requires { ⌜ length (now counts) ≡ 192 ⌝ }
+    requires { ⌜ length (now counts) ≡ 224 ⌝ }
 {
     let mut sum: u64 = 0;
-    for i in 16..192 {
+    for i in 16..224 {
         sum = std::num::wrapping_add_u64(sum, line(i, counts[i]));
     }
     number(sum);

@@ -5,6 +5,7 @@ use mathlib.Core.List.{List, [], _∷_}
 use Prim.Native.Nat.{ℕ, _+_, _*_, _-_, _/_, _^_, _<_, _≤_}
 use native.Mathlib.Omega.{arith}
 use lib.Dec.{eqb, eqb→eq, lit<, lit≤}
+use borrow.Author.Tests.{ne-eqb}
 use Rattle.laws.specs.Lists.{every}
 use Rattle.laws.proofs.Bounds.{cond-ind}
 use Rattle.laws.proofs.Chain.{and-left, and-right}
@@ -12,7 +13,7 @@ use Rattle.sets.specs.declared.Set.{Set}
 use Rattle.sets.specs.declared.Set.the-variants.{I, II, III, IV}
 use Rattle.sets.specs.declared.Asked.{Asked}
 use Rattle.sets.specs.declared.Asked.the-variants.{Known, Unknown}
-use Rattle.sets.specs.Numbers.{dimension, twiceModulus, maskLimit, listLimit, listOffset, recordLimit, Largest, kappaOf, dOf, pOf, largestOf, boundOf, boundSquaredOf, keyLimitOf, onesOf, twosOf, coefficientLimitOf, totalOf, setNumberOf, namedOf, askedOf}
+use Rattle.sets.specs.Numbers.{dimension, twiceModulus, maskLimit, listLimit, listOffset, recordLimit, Largest, kappaOf, dOf, pOf, largestOf, boundOf, boundSquaredOf, keyLimitOf, onesOf, twosOf, coefficientLimitOf, totalOf, setNumberOf, namedOf, askedOf, defaultOne}
 
 -- a statement about a set, from its four cases
 each : (P : Set → Type 0) → P I → P II → P III → P IV → (s : Set) → P s
@@ -140,3 +141,17 @@ number-small = each _ (lit< tt) (lit< tt) (lit< tt) (lit< tt)
 pub asked-back : (s : Set) → askedOf (setNumberOf s) ≡ Known s
 unfolding askedOf namedOf
 asked-back = each _ refl refl refl refl
+
+-- 0 asks for set 4
+pub asked-zero : askedOf 0 ≡ Known IV
+unfolding askedOf
+asked-zero = refl
+
+-- with the old default 0 is 1, and any other number itself
+pub default-zero : defaultOne 0 ≡ 1
+unfolding defaultOne
+default-zero = refl
+
+pub default-other : (n : ℕ) → (n ≡ 0 → ⊥) → defaultOne n ≡ n
+unfolding defaultOne
+default-other n h = rw (ne-eqb n 0 h)

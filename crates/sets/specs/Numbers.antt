@@ -155,6 +155,10 @@ namedOf x =
     (cond (eqb x 4) (Known IV)
     Unknown)))
 
--- the set that a number stands for on a call: 0 stands for set 1
+-- the set that a number stands for on a call: 0 stands for set 4 (02, C-17)
 unfoldable pub askedOf : ℕ → Asked
-askedOf x = cond (eqb x 0) (Known I) (namedOf x)
+askedOf x = cond (eqb x 0) (Known IV) (namedOf x)
+
+-- the number that a call which keeps the old default asks for: 0 becomes 1 (02, C-17)
+unfoldable pub defaultOne : ℕ → ℕ
+defaultOne x = cond (eqb x 0) 1 x

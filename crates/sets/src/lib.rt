@@ -1,7 +1,7 @@
 // The parameter sets: the numbers of a set are asked of the set and stand nowhere else (01, "Parameters").
 ghost use mathlib.Core.Path.{_≡_};
 ghost use Prim.Native.Nat.{_^_};
-ghost use Rattle.sets.specs.Numbers.{kappaOf, dOf, pOf, largestOf, boundSquaredOf, keyLimitOf, onesOf, twosOf, totalOf, setNumberOf, namedOf, askedOf};
+ghost use Rattle.sets.specs.Numbers.{kappaOf, dOf, pOf, largestOf, boundSquaredOf, keyLimitOf, onesOf, twosOf, totalOf, setNumberOf, namedOf, askedOf, defaultOne};
 
 // The bytes of a record's header, and where z1, z2 dagger and the list start (01, "The record").
 pub const HEADER_LENGTH: usize = 24;
@@ -179,14 +179,21 @@ impl Set {
         }
     }
 
-    // The set that a number stands for on a call.
+    // The set that a number stands for on a call: 0 stands for set 4 (02, C-17).
     pub fn asked(number: u32) -> Asked
         ensures { λ r. ⌜ r ≡ askedOf number ⌝ }
     {
         if number == 0 {
-            Asked::Known(Set::I)
+            Asked::Known(Set::IV)
         } else {
             Set::named(number)
         }
+    }
+
+    // The number that a call which keeps the old default asks for: 0 becomes 1 (02, C-17).
+    pub fn default_one(number: u32) -> u32
+        ensures { λ r. ⌜ r ≡ defaultOne number ⌝ }
+    {
+        if number == 0 { 1 } else { number }
     }
 }

@@ -26,7 +26,7 @@ pub fn run() {
 fn thin() {
     show::heading(b"key test, f = 1, g = 0, a = 1");
     sized(b"set 1", 1, 512, 512, 512, 1);
-    sized(b"set 0", 0, 512, 512, 512, 1);
+    sized(b"set 0, which stands for 4", 0, 512, 512, 512, 1);
     sized(b"set 2", 2, 512, 512, 512, 1);
     sized(b"set 3", 3, 512, 512, 512, 1);
     sized(b"set 4", 4, 512, 512, 512, 1);

@@ -28,10 +28,11 @@ const NONE: usize = 90;
 pub fn run() {
     thin();
     own(b"set 1, 154 and 0", 1, Set::I);
-    own(b"set 0, the same", 0, Set::I);
     own(b"set 2, 154 and 0", 2, Set::II);
     own(b"set 3, 216 and 16", 3, Set::III);
     own(b"set 4, 231 and 31", 4, Set::IV);
+    own(b"set 0, which stands for 4, the same", 0, Set::IV);
+    own(b"set 0, 154 and 0, 23 places", 0, Set::I);
     unequal();
     counts();
     faults();
@@ -41,12 +42,12 @@ pub fn run() {
 fn thin() {
     show::heading(b"response, f = 1, g = 0, a = 1, masks zero, list 0 to 22, words zero");
     shown(b"set 1, thresholds 1, twelve words", one(1, 1, 12));
-    shown(b"set 0, the same", one(0, 1, 12));
     shown(b"set 2, the same", one(2, 1, 12));
     shown(b"eleven words", one(1, 1, 11));
     shown(b"thresholds 0, one word", one(1, 0, 1));
     shown(b"no words", one(1, 1, 0));
     shown(b"set 4: 39 places are wanted", one(4, 1, 12));
+    shown(b"set 0, which stands for 4: the same", one(0, 1, 12));
     shown(b"set 5", one(5, 1, 12));
     show::heading(
         b"response, f and g of the set's counts, masks zero, list 0, 1, 2, .., words zero",

@@ -24,7 +24,7 @@ use vector_slots::wanted::Asked;
 use vector_slots::wanted::is_left;
 use vector_slots::wanted::is_wanted;
 
-// The call of this number, 1 to 11. Of a signature that is given out it counts in `said` what the checker says.
+// The call of this number, 1 to 13. Of a signature that is given out it counts in `said` what the checker says.
 pub fn call(memory: &[u8], which: u8, k: Asked, said: &mut [u32]) -> bool
     requires { ⌜ length (now memory) ≡ 38912 ⌝ }
 {
@@ -32,8 +32,8 @@ pub fn call(memory: &[u8], which: u8, k: Asked, said: &mut [u32]) -> bool
         1 => key_test(memory, k),
         2 => commitment(memory, k),
         3 => respond(memory, k, said),
-        4 => rebuild(memory, k),
-        5 => comparison(memory, k),
+        4 | 12 => rebuild(memory, which, k),
+        5 | 13 => comparison(memory, which, k),
         6 => write(memory, k),
         7 => read(memory, k),
         8 | 9 | 10 => section(memory, which, k),
@@ -306,15 +306,15 @@ fn total_of(set: u32) -> usize {
     }
 }
 
-fn rebuild(memory: &[u8], k: Asked) -> bool
+fn rebuild(memory: &[u8], which: u8, k: Asked) -> bool
     requires { ⌜ length (now memory) ≡ 38912 ⌝ }
 {
     let mut out = [whole_fill(k.fill); ENTRIES];
-    let r = rebuilt(memory, k, &mut out);
+    let r = rebuilt(memory, which, k, &mut out);
     is_rounded(memory, k, r, &out)
 }
 
-fn rebuilt(memory: &[u8], k: Asked, out: &mut [u16]) -> Answer
+fn rebuilt(memory: &[u8], which: u8, k: Asked, out: &mut [u16]) -> Answer
     requires { ⌜ length (now memory) ≡ 38912 ⌝ }
 {
     let a = slots::whole(memory, 3);
@@ -325,6 +325,17 @@ fn rebuilt(memory: &[u8], k: Asked, out: &mut [u16]) -> Answer
     let z1_lent = first_wide(&z1, length_of(memory, 10));
     let z2_lent = first_narrow(&z2, length_of(memory, 11));
     let list_lent = first_whole(&list, length_of(memory, 6));
+    if which == 12 {
+        return lending::rebuild_default_one(
+            k.set,
+            a_lent,
+            z1_lent,
+            z2_lent,
+            list_lent,
+            out,
+            once(k.rounded),
+        );
+    }
     lending::rebuild(
         k.set,
         a_lent,
@@ -336,15 +347,22 @@ fn rebuilt(memory: &[u8], k: Asked, out: &mut [u16]) -> Answer
     )
 }
 
-fn comparison(memory: &[u8], k: Asked) -> bool
+fn comparison(memory: &[u8], which: u8, k: Asked) -> bool
     requires { ⌜ length (now memory) ≡ 38912 ⌝ }
 {
     let claimed = slots::whole(memory, 6);
     let hashed = slots::whole(memory, 7);
     let claimed_lent = first_whole(&claimed, length_of(memory, 6));
     let hashed_lent = first_whole(&hashed, length_of(memory, 7));
-    let r = bursztok::bursztok_compare(k.set, claimed_lent, hashed_lent);
+    let r = compared(which, k.set, claimed_lent, hashed_lent);
     is_wanted(r.number, r.place, k)
+}
+
+fn compared(which: u8, set: u32, claimed: &[u16], hashed: &[u16]) -> Answer {
+    if which == 13 {
+        return bursztok::bursztok_compare_default_one(set, claimed, hashed);
+    }
+    bursztok::bursztok_compare(set, claimed, hashed)
 }
 
 fn write(memory: &[u8], k: Asked) -> bool

@@ -56,7 +56,7 @@ const fn program(
     }
 }
 
-const ROWS: [Row; 11] = [
+const ROWS: [Row; 12] = [
     program(
         "product, both operands transformed",
         ("ring_bench", 2000),
@@ -105,6 +105,13 @@ const ROWS: [Row; 11] = [
         "rebuild",
         Some(75_000),
         Some(181_977),
+    ),
+    call(
+        "rebuild with default one, set I",
+        Set::I,
+        "rebuild-default-one",
+        Some(75_000),
+        None,
     ),
     call("record written, set I", Set::I, "write", Some(5_700), None),
     call("record read, set I", Set::I, "read", Some(5_700), None),

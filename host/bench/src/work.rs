@@ -9,7 +9,7 @@ use second::Set;
 use std::hint::black_box;
 
 /// The calls that are measured: as options name them, and the symbols that the library exports.
-pub const MEASURED: [(Call, &str, &str); 7] = [
+pub const MEASURED: [(Call, &str, &str); 8] = [
     (Call::KeyTest, "key-test", "bursztok_key_test"),
     (Call::Commitment, "commitment", "bursztok_commitment"),
     (
@@ -19,6 +19,11 @@ pub const MEASURED: [(Call, &str, &str); 7] = [
     ),
     (Call::Respond, "response", "bursztok_respond"),
     (Call::Rebuild, "rebuild", "bursztok_rebuild"),
+    (
+        Call::RebuildDefaultOne,
+        "rebuild-default-one",
+        "bursztok_rebuild_default_one",
+    ),
     (Call::Write, "write", "bursztok_write"),
     (Call::Read, "read", "bursztok_read"),
 ];

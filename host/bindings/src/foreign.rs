@@ -106,7 +106,29 @@ extern "C" {
         out_len: usize,
     ) -> Answer;
 
+    pub fn bursztok_rebuild_default_one(
+        set: u32,
+        a: *const u16,
+        a_len: usize,
+        z1: *const i16,
+        z1_len: usize,
+        z2: *const i8,
+        z2_len: usize,
+        list: *const u16,
+        list_len: usize,
+        out: *mut u16,
+        out_len: usize,
+    ) -> Answer;
+
     pub fn bursztok_compare(
+        set: u32,
+        claimed: *const u16,
+        claimed_len: usize,
+        hashed: *const u16,
+        hashed_len: usize,
+    ) -> Answer;
+
+    pub fn bursztok_compare_default_one(
         set: u32,
         claimed: *const u16,
         claimed_len: usize,

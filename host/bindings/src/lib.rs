@@ -1,8 +1,9 @@
 //! Safe bindings to `libbursztok.a`, the proved BLISS-B signing core.
 //!
-//! The eleven calls of papers 01 and 02, with slices for the pointers and lengths of `bursztok.h`, and
+//! The thirteen calls of papers 01 and 02, with slices for the pointers and lengths of `bursztok.h`, and
 //! the two that tell a set's sizes. Every call answers on all input, slices of any length included; a
-//! refusal leaves every output slice with the contents it came with.
+//! refusal leaves every output slice with the contents it came with. A set of 0 stands for set 4, and
+//! for set 1 on the two calls that keep the old default.
 
 pub mod foreign;
 #[cfg(target_arch = "x86_64")]
@@ -116,9 +117,28 @@ pub fn rebuild(
     outcome(calls::rebuild(set, a, z1, z2_dagger, list, out))
 }
 
+/// The rebuild for callers that pass 0 for sheets of set 1: with 0 it is `rebuild` with 1, with any
+/// other number `rebuild` with that number.
+pub fn rebuild_default_one(
+    set: u32,
+    a: &[u16],
+    z1: &[i16],
+    z2_dagger: &[i8],
+    list: &[u16],
+    out: &mut [u16],
+) -> Result<(), Refusal> {
+    outcome(calls::rebuild_default_one(set, a, z1, z2_dagger, list, out))
+}
+
 /// The comparison of the claimed list with the list that the caller hashed.
 pub fn compare(set: u32, claimed: &[u16], hashed: &[u16]) -> Result<(), Refusal> {
     outcome(calls::compare(set, claimed, hashed))
+}
+
+/// The comparison for callers that pass 0 for sheets of set 1: with 0 it is `compare` with 1, with
+/// any other number `compare` with that number.
+pub fn compare_default_one(set: u32, claimed: &[u16], hashed: &[u16]) -> Result<(), Refusal> {
+    outcome(calls::compare_default_one(set, claimed, hashed))
 }
 
 /// The record writer. A longer output keeps its tail.
@@ -156,12 +176,12 @@ pub fn list_section(record: &[u8]) -> Section<'_> {
     section(record, calls::list_section(record))
 }
 
-/// The places of a list of this set, 0 where the number stands for no set. 0 stands for set 1.
+/// The places of a list of this set, 0 where the number stands for no set. 0 stands for set 4.
 pub fn kappa(set: u32) -> usize {
     calls::kappa(set) as usize
 }
 
-/// The bytes of a record of this set, 0 where the number stands for no set. 0 stands for set 1.
+/// The bytes of a record of this set, 0 where the number stands for no set. 0 stands for set 4.
 pub fn record_bytes(set: u32) -> usize {
     calls::record_bytes(set) as usize
 }

@@ -99,9 +99,47 @@ pub fn rebuild(
     list: &[u16],
     out: &mut [u16],
 ) -> Answer {
+    rebuild_by(foreign::bursztok_rebuild, set, a, z1, z2_dagger, list, out)
+}
+
+pub fn rebuild_default_one(
+    set: u32,
+    a: &[u16],
+    z1: &[i16],
+    z2_dagger: &[i8],
+    list: &[u16],
+    out: &mut [u16],
+) -> Answer {
+    let call = foreign::bursztok_rebuild_default_one;
+    rebuild_by(call, set, a, z1, z2_dagger, list, out)
+}
+
+type RebuildCall = unsafe extern "C" fn(
+    u32,
+    *const u16,
+    usize,
+    *const i16,
+    usize,
+    *const i8,
+    usize,
+    *const u16,
+    usize,
+    *mut u16,
+    usize,
+) -> Answer;
+
+fn rebuild_by(
+    call: RebuildCall,
+    set: u32,
+    a: &[u16],
+    z1: &[i16],
+    z2_dagger: &[i8],
+    list: &[u16],
+    out: &mut [u16],
+) -> Answer {
     // SAFETY: each pointer is good for the length beside it; `out` is borrowed alone.
     unsafe {
-        foreign::bursztok_rebuild(
+        call(
             set,
             a.as_ptr(),
             a.len(),
@@ -118,9 +156,19 @@ pub fn rebuild(
 }
 
 pub fn compare(set: u32, claimed: &[u16], hashed: &[u16]) -> Answer {
+    compare_by(foreign::bursztok_compare, set, claimed, hashed)
+}
+
+pub fn compare_default_one(set: u32, claimed: &[u16], hashed: &[u16]) -> Answer {
+    compare_by(foreign::bursztok_compare_default_one, set, claimed, hashed)
+}
+
+type CompareCall = unsafe extern "C" fn(u32, *const u16, usize, *const u16, usize) -> Answer;
+
+fn compare_by(call: CompareCall, set: u32, claimed: &[u16], hashed: &[u16]) -> Answer {
     // SAFETY: each pointer is good for the length beside it.
     unsafe {
-        foreign::bursztok_compare(
+        call(
             set,
             claimed.as_ptr(),
             claimed.len(),

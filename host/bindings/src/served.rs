@@ -163,8 +163,24 @@ pub fn rebuild(
     ask(4, set, false, &read, &mut [bytes_mut(out)]).0
 }
 
+pub fn rebuild_default_one(
+    set: u32,
+    a: &[u16],
+    z1: &[i16],
+    z2_dagger: &[i8],
+    list: &[u16],
+    out: &mut [u16],
+) -> Answer {
+    let read = [bytes(a), bytes(z1), bytes(z2_dagger), bytes(list)];
+    ask(12, set, false, &read, &mut [bytes_mut(out)]).0
+}
+
 pub fn compare(set: u32, claimed: &[u16], hashed: &[u16]) -> Answer {
     ask(5, set, false, &[bytes(claimed), bytes(hashed)], &mut []).0
+}
+
+pub fn compare_default_one(set: u32, claimed: &[u16], hashed: &[u16]) -> Answer {
+    ask(13, set, false, &[bytes(claimed), bytes(hashed)], &mut []).0
 }
 
 pub fn write(set: u32, z1: &[i16], z2_dagger: &[i8], list: &[u16], out: &mut [u8]) -> Answer {
@@ -200,9 +216,9 @@ fn section(call: u32, record: &[u8]) -> (Answer, Part) {
 }
 
 pub fn kappa(set: u32) -> u32 {
-    ask(12, set, false, &[], &mut []).0.number
+    ask(14, set, false, &[], &mut []).0.number
 }
 
 pub fn record_bytes(set: u32) -> u32 {
-    ask(13, set, false, &[], &mut []).0.number
+    ask(15, set, false, &[], &mut []).0.number
 }

@@ -140,7 +140,7 @@ mod tests {
     fn every_difference_is_noticed() {
         let mut noise = Noise::new(82);
         let key = keys::published(Set::I, &mut noise);
-        let input = right_input(1, &key, &mut noise);
+        let input = right_input(Set::I, &key, &mut noise);
         let right = Left::by(run, Call::Read, &input, 7);
         assert_eq!(difference(&right, &right), None);
         let changes: [fn(&mut Left); 12] = [
@@ -167,16 +167,12 @@ mod tests {
     #[test]
     fn a_right_input_is_done_by_every_call() {
         let mut noise = Noise::new(83);
-        for set in 0..5 {
-            let key = keys::published(Set::asked(set).unwrap(), &mut noise);
+        for set in Set::ALL {
+            let key = keys::published(set, &mut noise);
             let input = right_input(set, &key, &mut noise);
             for call in Call::ALL {
-                assert_eq!(
-                    Left::by(run, call, &input, 7).number(),
-                    0,
-                    "{}",
-                    call.name()
-                );
+                let number = Left::by(run, call, &input, 7).number();
+                assert_eq!(number, 0, "{}", call.name());
             }
         }
     }

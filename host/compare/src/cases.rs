@@ -1,22 +1,23 @@
 //! The cases of a run. Case numbers below `Plan::planned()` go through every edge of a key's counts,
 //! every call, set and pair of faults, every header bit, every length of a record, every count of
-//! words and every step of the draw, and masks that make the dropped digits cost their figure; those
-//! above are drawn at random. A case is made from the run's seed and its number alone.
+//! words and every step of the draw, masks that make the dropped digits cost their figure, and what 0
+//! stands for on each call; those above are drawn at random. A case is made from the run's seed and
+//! its number alone.
 
 use crate::buffers::{difference, Buffers, Left};
 use crate::costs::{steer, Cost};
-use crate::faults::faults_of;
+use crate::faults::{faults_of, Fault};
 use crate::inputs::right_input;
 use crate::{library, walks};
 use second::record::{total, HEADER};
-use second::testing::calls::{self, Call, Input};
+use second::testing::calls::{self, Answered, Call, Input, Outputs};
 use second::testing::edges::Edge;
 use second::testing::keys::{self, Key};
 use second::testing::noise::Noise;
 use second::Set;
 use std::collections::HashMap;
 
-/// The set numbers that calls take: 0 stands for set 1.
+/// The set numbers that calls take: 0 stands for one of the sets.
 const SET_NUMBERS: [u32; 5] = [0, 1, 2, 3, 4];
 /// So many cases share a key.
 const CASES_PER_KEY: u64 = 16;
@@ -41,9 +42,14 @@ enum Planned {
     Walks { set: u32 },
     /// A response at which the dropped digits cost the figure, up or down.
     Figure { set: u32, up: bool },
+    /// A sheet of this set with every number on every call that takes one.
+    Defaults { set: Set },
     /// The sizes of every number from 0 to 300, and of numbers about powers of two.
     Sizes,
 }
+
+/// Who runs a call: the library or the second program.
+type Side = fn(Call, &Input, Outputs) -> Answered;
 
 /// What a case found: the answers and the costs, for the tally, and the failures.
 #[derive(Default)]
@@ -67,7 +73,7 @@ impl Plan {
         let mut planned = Vec::new();
         for set in SET_NUMBERS {
             for call in [Call::KeyTest, Call::Respond] {
-                let edges = Edge::all(set_numbered(set)).into_iter();
+                let edges = Edge::all(asked(call, set)).into_iter();
                 planned.extend(edges.map(|edge| Planned::Counts { call, set, edge }));
             }
             for call in Call::ALL {
@@ -85,6 +91,7 @@ impl Plan {
             planned.push(Planned::Walks { set });
             planned.extend([true, false].map(|up| Planned::Figure { set, up }));
         }
+        planned.extend(Set::ALL.map(|set| Planned::Defaults { set }));
         planned.push(Planned::Sizes);
         Plan {
             seed,
@@ -108,6 +115,7 @@ impl Plan {
             Planned::WordCounts { .. } | Planned::Walks { .. } | Planned::Figure { .. } => {
                 call == Call::Respond
             }
+            Planned::Defaults { .. } => call.takes_set(),
             Planned::Sizes => !call.has_number(),
         };
         let numbered = self.planned.iter().zip(0..);
@@ -130,25 +138,22 @@ impl Plan {
         match planned {
             Planned::Counts { call, set, edge } => {
                 found.story = format!("{}, set {set}: {}", call.name(), edge.name());
-                let key = keys::published(set_numbered(set), noise);
-                let key = edge.of(set_numbered(set), &key, noise);
-                found.compare(call, &right_input(set, &key, noise));
+                let of = asked(call, set);
+                let key = edge.of(of, &keys::published(of, noise), noise);
+                let right = right_input(of, &key, noise);
+                found.compare(call, &Input { set, ..right });
             }
             Planned::Pair { call, set, faults } => {
-                let mut input = self.input(number, set, noise);
                 let all = faults_of(call);
-                let (first, second) = (all[faults.0], all[faults.1]);
-                (first.apply)(&mut input, noise);
-                found.story = format!("{}, set {set}: {}", call.name(), first.name);
-                if faults.0 != faults.1 {
-                    (second.apply)(&mut input, noise);
-                    found.story += &format!(" and {}", second.name);
-                }
-                found.compare(call, &input);
+                let mut both = vec![all[faults.0], all[faults.1]];
+                both.truncate(if faults.0 == faults.1 { 1 } else { 2 });
+                let names: Vec<&str> = both.iter().map(|fault| fault.name).collect();
+                found.story = format!("{}, set {set}: {}", call.name(), names.join(" and "));
+                found.compare(call, &self.input(number, call, set, &both, noise));
             }
             Planned::HeaderByte { set, byte } => {
                 found.story = format!("header byte {byte}, set {set}");
-                let right = self.input(number, set, noise);
+                let right = self.input(number, Call::Read, set, &[], noise);
                 for bit in 0..8 {
                     let mut input = right.clone();
                     input.record[byte] ^= 1 << bit;
@@ -157,7 +162,7 @@ impl Plan {
             }
             Planned::RecordLengths { set } => {
                 found.story = format!("lengths of a record, set {set}");
-                let right = self.input(number, set, noise);
+                let right = self.input(number, Call::Read, set, &[], noise);
                 for length in 0..right.record.len() + 3 {
                     let mut input = right.clone();
                     input.record.resize(length, 0);
@@ -166,7 +171,7 @@ impl Plan {
             }
             Planned::WordCounts { set } => {
                 found.story = format!("counts of words, set {set}");
-                let mut input = self.input(number, set, noise);
+                let mut input = self.input(number, Call::Respond, set, &[], noise);
                 // Thresholds that fail now and then, so that walks go through all four steps.
                 input.thresholds.fill(noise.word() | 7 << 61);
                 input.words = noise.words(300);
@@ -181,7 +186,7 @@ impl Plan {
             }
             Planned::Walks { set } => {
                 found.story = format!("walks of the draw, set {set}");
-                let mut input = self.input(number, set, noise);
+                let mut input = self.input(number, Call::Respond, set, &[], noise);
                 input.thresholds.fill(walks::THRESHOLD);
                 for words in walks::walks(&input, noise) {
                     // All of the walk, and all but its last word.
@@ -194,11 +199,22 @@ impl Plan {
             Planned::Figure { set, up } => {
                 let way = if up { "up" } else { "down" };
                 found.story = format!("masks steered {way} to the figure, set {set}");
-                let key = keys::published(set_numbered(set), noise);
-                let mut input = right_input(set, &key, noise);
+                let of = asked(Call::Respond, set);
+                let mut input = right_input(of, &keys::published(of, noise), noise);
                 steer(&mut input, up, noise);
-                found.compare(Call::Respond, &input);
+                found.compare(Call::Respond, &Input { set, ..input });
                 found.require_figure(up);
+            }
+            Planned::Defaults { set } => {
+                found.story = format!("a sheet of set {} with every number", set.number());
+                let right = right_input(set, self.key(number, set), noise);
+                for call in Call::ALL.into_iter().filter(|call| call.takes_set()) {
+                    for set in 0..=5 {
+                        let right = right.clone();
+                        found.compare(call, &Input { set, ..right });
+                    }
+                    found.require_default(library::run, call, &right);
+                }
             }
             Planned::Sizes => {
                 found.story = "sizes of sets".to_string();
@@ -225,14 +241,15 @@ impl Plan {
             _ => noise.one_of(&Call::ALL),
         };
         let set = noise.one_of(&SET_NUMBERS);
-        let mut input = self.input(number, set, noise);
         found.story = format!("{}, set {set}", call.name());
-        let faults = faults_of(call);
+        let all = faults_of(call);
+        let mut faults = Vec::new();
         for _ in 0..noise.below(4) {
-            let fault = faults[noise.below(faults.len())];
-            (fault.apply)(&mut input, noise);
+            let fault = noise.one_of(&all);
             found.story += &format!(", {}", fault.name);
+            faults.push(fault);
         }
+        let input = self.input(number, call, set, &faults, noise);
         let left = found.compare(call, &input);
         if call == Call::Respond && left.number() == 0 {
             found.follow(&input, &left);
@@ -243,23 +260,43 @@ impl Plan {
         found
     }
 
-    fn input(&mut self, number: u64, set: u32, noise: &mut Noise) -> Input {
+    /// A right input for the call, with these faults. It is made and spoilt with its set named, and
+    /// asked for with this number where no fault changed the set.
+    fn input(
+        &mut self,
+        number: u64,
+        call: Call,
+        set: u32,
+        faults: &[&Fault],
+        noise: &mut Noise,
+    ) -> Input {
+        let of = asked(call, set);
+        let mut input = right_input(of, self.key(number, of), noise);
+        for fault in faults {
+            (fault.apply)(&mut input, noise);
+        }
+        if input.set == of.number() {
+            input.set = set;
+        }
+        input
+    }
+
+    fn key(&mut self, number: u64, set: Set) -> &Key {
         let slot = number / CASES_PER_KEY;
         if self.keys.len() > 64 {
             self.keys.clear();
         }
         let seed = self.seed;
-        let key = self.keys.entry((set, slot)).or_insert_with(|| {
-            let mut noise = Noise::part(seed ^ u64::from(set), u64::MAX - slot);
-            keys::any(set_numbered(set), &mut noise)
-        });
-        right_input(set, key, noise)
+        self.keys.entry((set.number(), slot)).or_insert_with(|| {
+            let mut noise = Noise::part(seed ^ u64::from(set.number()), u64::MAX - slot);
+            keys::any(set, &mut noise)
+        })
     }
 }
 
-/// The set of one of `SET_NUMBERS`.
-fn set_numbered(number: u32) -> Set {
-    Set::asked(number).expect("a set number")
+/// The set that one of `SET_NUMBERS` asks the call for.
+fn asked(call: Call, number: u32) -> Set {
+    call.asked(number).expect("a set number")
 }
 
 impl Found {
@@ -309,6 +346,28 @@ impl Found {
         }
     }
 
+    /// 02, C-17: with 0 the call of a side leaves behind what it does with set 4 named; a call that
+    /// keeps the old default, what the other does with set 1 named, and with any other number what
+    /// that does with it.
+    fn require_default(&mut self, side: Side, call: Call, right: &Input) {
+        let (plain, default, numbers) = match call {
+            Call::RebuildDefaultOne => (Call::Rebuild, 1, 0..=5),
+            Call::CompareDefaultOne => (Call::Compare, 1, 0..=5),
+            _ => (call, 4, 0..=0),
+        };
+        let left = |call: Call, set: u32| {
+            let right = right.clone();
+            Left::by(side, call, &Input { set, ..right }, 0)
+        };
+        for number in numbers {
+            let named = if number == 0 { default } else { number };
+            if left(call, number) != left(plain, named) {
+                let what = format!("with {number} it is not the {} with {named}", plain.name());
+                self.fail(call, what);
+            }
+        }
+    }
+
     fn compare_record_calls(&mut self, input: &Input) {
         for call in Call::ON_RECORD {
             self.compare(call, input);
@@ -316,23 +375,34 @@ impl Found {
     }
 
     /// Demands 2 and 3 for a signature that was given out: it is written, read back, rebuilt to
-    /// the commitment, which is the same with rests, and compared.
+    /// the commitment, which is the same with rests, and compared. A checker with the old default
+    /// says the same.
     fn follow(&mut self, input: &Input, given_out: &Left) {
         let mut next = input.clone();
         next.z1 = given_out.buffers.z1().to_vec();
         next.z2_dagger = given_out.buffers.z2_dagger().to_vec();
         next.hashed.clone_from(&next.list);
+        let set = Set::asked(next.set).expect("it was signed");
+        let old = Input {
+            set: if set == Set::I { 0 } else { set.number() },
+            ..next.clone()
+        };
         let committed = self.compare(Call::Commitment, &next);
-        for call in [Call::CommitmentWithRests, Call::Rebuild] {
-            let again = self.compare(call, &next);
+        for (call, input) in [
+            (Call::CommitmentWithRests, &next),
+            (Call::Rebuild, &next),
+            (Call::RebuildDefaultOne, &old),
+        ] {
+            let again = self.compare(call, input);
             if again.number() != 0 || again.buffers.rounded() != committed.buffers.rounded() {
                 self.fail(call, "it is not the commitment");
             }
         }
-        if self.compare(Call::Compare, &next).number() != 0 {
-            self.fail(Call::Compare, "a list differs from itself");
+        for (call, input) in [(Call::Compare, &next), (Call::CompareDefaultOne, &old)] {
+            if self.compare(call, input).number() != 0 {
+                self.fail(call, "a list differs from itself");
+            }
         }
-        let set = Set::asked(next.set).expect("it was signed");
         next.lengths.record = total(set);
         let written = self.compare(Call::Write, &next);
         next.record = written.buffers.record().to_vec();
@@ -372,9 +442,51 @@ impl Found {
 
 #[cfg(test)]
 mod tests {
-    use super::Found;
+    use super::{Found, Side};
     use crate::costs::Cost;
+    use crate::inputs::right_input;
+    use second::testing::calls::{run, Call, Input};
+    use second::testing::keys;
+    use second::testing::noise::Noise;
     use second::Set;
+
+    /// The calls that a side with a wrong default is found out by, on a sheet of this set.
+    fn found_out(set: Set, side: Side) -> Vec<Call> {
+        let mut noise = Noise::new(85);
+        let key = keys::published(set, &mut noise);
+        let right = right_input(set, &key, &mut noise);
+        let mut calls: Vec<Call> = Call::ALL.to_vec();
+        calls.retain(|&call| {
+            let mut found = Found::default();
+            found.require_default(side, call, &right);
+            call.takes_set() && !found.failures.is_empty()
+        });
+        calls
+    }
+
+    #[test]
+    fn a_wrong_default_is_found_out() {
+        let old_default = [Call::RebuildDefaultOne, Call::CompareDefaultOne];
+        for set in Set::ALL {
+            assert_eq!(found_out(set, run), []);
+        }
+        // 0 taken for one set by every call, and no other number changed.
+        fn zero_as(set: u32, input: &Input) -> Input {
+            let set = if input.set == 0 { set } else { input.set };
+            let input = input.clone();
+            Input { set, ..input }
+        }
+        let one = found_out(Set::I, |call, input, out| {
+            run(call, &zero_as(1, input), out)
+        });
+        let plain = Call::ALL.into_iter().filter(|call| call.takes_set());
+        let plain: Vec<Call> = plain.filter(|call| !old_default.contains(call)).collect();
+        assert_eq!(one, plain);
+        let four = found_out(Set::I, |call, input, out| {
+            run(call, &zero_as(4, input), out)
+        });
+        assert_eq!(four, old_default);
+    }
 
     fn weighed(lowest: i64, highest: i64) -> Found {
         let mut found = Found::default();

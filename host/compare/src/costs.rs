@@ -97,7 +97,7 @@ mod tests {
     /// An input, its response by the second program, and the cost of that.
     fn responded(set: Set, steered: Option<bool>, noise: &mut Noise) -> (Input, Vec<i8>, Cost) {
         let key = keys::published(set, noise);
-        let mut input = right_input(set.number(), &key, noise);
+        let mut input = right_input(set, &key, noise);
         if let Some(up) = steered {
             steer(&mut input, up, noise);
         }

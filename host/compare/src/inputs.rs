@@ -11,12 +11,12 @@ use second::Set;
 /// More words than any walk takes whose trials all succeed: two trials of at most 31 places.
 const PASSING_WORDS: usize = 62;
 
-/// An input on which every call is done, where the key passes the key test.
-pub fn right_input(number: u32, key: &Key, noise: &mut Noise) -> Input {
-    let set = Set::asked(number).expect("a set to start from");
+/// An input of this set, which it names, on which every call is done, where the key passes the key
+/// test.
+pub fn right_input(set: Set, key: &Key, noise: &mut Noise) -> Input {
     let list = noise.list(set);
     let mut input = Input {
-        set: number,
+        set: set.number(),
         f: key.f.clone(),
         g: key.g.clone(),
         a: key.a.clone(),

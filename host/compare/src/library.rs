@@ -14,7 +14,12 @@ pub fn run(call: Call, input: &Input, out: Outputs) -> Answered {
             bursztok::commitment_with_rests(*set, a, &input.y1, &input.y2, rounded, rests)
         }
         Call::Rebuild => bursztok::rebuild(*set, a, &input.z1, &input.z2_dagger, list, out.rounded),
+        Call::RebuildDefaultOne => {
+            let (z1, z2_dagger) = (&input.z1, &input.z2_dagger);
+            bursztok::rebuild_default_one(*set, a, z1, z2_dagger, list, out.rounded)
+        }
         Call::Compare => bursztok::compare(*set, list, &input.hashed),
+        Call::CompareDefaultOne => bursztok::compare_default_one(*set, list, &input.hashed),
         Call::Write => bursztok::write(*set, &input.z1, &input.z2_dagger, list, out.record),
         Call::Respond => {
             let challenge = Challenge {

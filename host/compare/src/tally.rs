@@ -126,7 +126,7 @@ impl Tally {
                 .filter(|((counted, _), _)| *counted == call)
                 .map(|((_, number), count)| format!("{number}: {count}"))
                 .collect();
-            table += &format!("  {:<21} {}\n", call.name(), counts.join(", "));
+            table += &format!("  {:<27} {}\n", call.name(), counts.join(", "));
         }
         table
     }

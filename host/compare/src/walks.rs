@@ -104,7 +104,7 @@ mod tests {
     fn each_walk_takes_all_its_words() {
         let mut noise = Noise::new(81);
         let key = keys::published(Set::II, &mut noise);
-        let mut input = right_input(2, &key, &mut noise);
+        let mut input = right_input(Set::II, &key, &mut noise);
         input.thresholds.fill(THRESHOLD);
         let mut numbers = [0, 0];
         for words in walks(&input, &mut noise) {

@@ -65,19 +65,21 @@ fn the_calls_have_the_figures_of_calls_and_performance() {
     let performance = text("docs/PERFORMANCE.md");
     let counted = |name: &str| row(&performance, name)[0].clone();
     let of_set_1 = |name: &str| format!("{} (set I)", counted(&format!("{name}, set I")));
+    let both = |one: &str, other: &str| {
+        format!("{}, {}", counted(&format!("{one}, set I")), of_set_1(other))
+    };
     let response = counted("response, set I / III / IV");
     let wanted = [
         ("response", format!("{response} (sets I / III / IV)")),
         ("key test", of_set_1("key test")),
-        ("rebuild", of_set_1("rebuild")),
+        (
+            "rebuild, with default one",
+            both("rebuild", "rebuild with default one"),
+        ),
         ("reader", of_set_1("record read")),
         (
             "commitment, with rests",
-            format!(
-                "{}, {}",
-                counted("commitment, set I"),
-                of_set_1("commitment with rests")
-            ),
+            both("commitment", "commitment with rests"),
         ),
         ("writer", of_set_1("record written")),
         ("each other call", "not counted".to_string()),

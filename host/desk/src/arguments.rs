@@ -122,7 +122,7 @@ impl Arguments {
         word.parse().map_err(|_| {
             let word = shown(word);
             self.fault(format!(
-                "--set is '{word}', expected a set number (1 to 4, or 0 for set 1)"
+                "--set is '{word}', expected a set number (1 to 4, or 0 for set 4)"
             ))
         })
     }

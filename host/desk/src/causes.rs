@@ -28,7 +28,7 @@ pub fn explain(refused: &mut Refused, set: u32, vectors: &[Vector]) {
     match refused.refusal {
         Refusal::SetAboveFour => {
             causes.push(format!(
-                "set {set}: sets are 1 to 4, and 0 stands for set 1"
+                "set {set}: sets are 1 to 4, and 0 stands for set 4"
             ));
         }
         Refusal::Length => causes.extend(vectors.iter().filter_map(wrong_count)),
@@ -115,6 +115,16 @@ fn outside(vectors: &[&Vector], range: RangeInclusive<i128>) -> Vec<String> {
     vectors.iter().filter_map(fault).collect()
 }
 
+/// The set that was asked for; of 0 also the one that it stands for.
+fn named_set(set: u32) -> String {
+    match Set::asked(set) {
+        Ok(other) if other.number() != set => {
+            format!("set {set}, which stands for set {},", other.number())
+        }
+        _ => format!("set {set}"),
+    }
+}
+
 /// How a list is not of the stated form.
 fn list_fault(list: &Vector, set: u32) -> Option<String> {
     let (source, numbers) = (&list.source, &list.numbers);
@@ -122,7 +132,8 @@ fn list_fault(list: &Vector, set: u32) -> Option<String> {
     if numbers.len() != kappa {
         let count = numbers.len();
         return Some(format!(
-            "{source}: a list of {count} places, set {set} has {kappa}"
+            "{source}: a list of {count} places, {} has {kappa}",
+            named_set(set)
         ));
     }
     for (at, number) in numbers.iter().enumerate() {
@@ -162,9 +173,11 @@ fn wrong_counts(secret: &Vector, set: u32) -> Option<String> {
     let ending = if ones == 1 { "" } else { "s" };
     (KeyCounts { ones, twos } != wanted).then(|| {
         format!(
-            "{}: {ones} coefficient{ending} of 1 or -1 and {twos} of 2 or -2, set {set} wants {} \
-             and {}",
-            secret.source, wanted.ones, wanted.twos
+            "{}: {ones} coefficient{ending} of 1 or -1 and {twos} of 2 or -2, {} wants {} and {}",
+            secret.source,
+            named_set(set),
+            wanted.ones,
+            wanted.twos
         )
     })
 }
@@ -177,6 +190,10 @@ mod tests {
     use bursztok::Refusal;
 
     fn causes(number: u32, place: u32, lent: &Lent) -> Vec<String> {
+        causes_of(1, number, place, lent)
+    }
+
+    fn causes_of(set: u32, number: u32, place: u32, lent: &Lent) -> Vec<String> {
         let mut refused = Refused {
             call: "test",
             refusal: Refusal::outcome(number, place).unwrap_err(),
@@ -184,8 +201,8 @@ mod tests {
             words: None,
             causes: Vec::new(),
         };
-        explain(&mut refused, 1, &lent.vectors);
-        assert_eq!(refused.set, 1);
+        explain(&mut refused, set, &lent.vectors);
+        assert_eq!(refused.set, set);
         refused.causes
     }
 
@@ -238,6 +255,18 @@ mod tests {
         assert_eq!(both(&right, &other), [two]);
         let one = "f.txt: 1 coefficient of 1 or -1 and 0 of 2 or -2, set 1 wants 154 and 0";
         assert_eq!(causes(15, 0, &lent("f", &[0, -1])), [one]);
+    }
+
+    #[test]
+    fn what_zero_stands_for_is_told() {
+        let places: Vec<i16> = (0..23).collect();
+        let list = "list.txt: a list of 23 places, set 0, which stands for set 4, has 39";
+        assert_eq!(causes_of(0, 5, 0, &lent("list", &places)), [list]);
+        let f = "f.txt: 1 coefficient of 1 or -1 and 0 of 2 or -2, set 0, which stands for set 4, \
+                 wants 231 and 31";
+        assert_eq!(causes_of(0, 15, 0, &lent("f", &[1])), [f]);
+        let above = "set 5: sets are 1 to 4, and 0 stands for set 4";
+        assert_eq!(causes_of(5, 1, 0, &Lent::default()), [above]);
     }
 
     #[test]

@@ -26,7 +26,7 @@ const CHANGED_SHEET: &str =
     "Custody transfer 4711: 138,420.7 m3 of LNG at -161.2 C, berth 3, 06:40.";
 
 pub fn demo(arguments: &Arguments) -> Result<ExitCode, Failure> {
-    let number = arguments.number_or("set", 1)?;
+    let number = arguments.number_or("set", 0)?;
     let set = u32::try_from(number)
         .ok()
         .and_then(|number| Set::asked(number).ok())

@@ -19,7 +19,7 @@ are text files: whole numbers between white space, '#' starts a comment. Records
 '-' is standard input for a file that is read and standard output for one that is written; what is
 said then goes to standard error. Noise and hash are yours: masks, words, thresholds and lists come
 from files. For trials bursztok-second makes them, with test keys; they are for tests only.
-Sets are 1 to 4; 0 stands for set 1. A file is written whole or not at all: first as FILE.part
+Sets are 1 to 4; 0 stands for set 4. A file is written whole or not at all: first as FILE.part
 beside it, then renamed.
 
 Exit status: 0 done; 1 refused, with the file, the cause, number, place and meaning; 2 bad usage or
@@ -34,7 +34,7 @@ Makes a test key, signs a sheet on the ship, hands the record over, checks it on
 shows damaged records refused. The key, the masks and the hash are the second program's, for tests
 only; everything that signs and checks is the library's.
 
-  --set N       the parameter set, 1 to 4, or 0 for set 1 (default 1)
+  --set N       the parameter set, 1 to 4, or 0 for set 4 (default 0)
   --seed N      what key and noise are made from (default 1)
   --sheets N    then sign and check so many sheets more, with progress (default 0)
   --folder DIR  keep the sheet, its record and the text files of this run there: all that
@@ -127,7 +127,7 @@ bursztok write --set N (--folder DIR | --z1 FILE --z2 FILE --list FILE) --record
 
 Writes a record. Refusals in order: 1, 2, 5, 10, 11.
 
-  --set N                  the parameter set; 0 is written as 1
+  --set N                  the parameter set; 0 is written as 4
   --folder DIR             holds z1.txt, z2.txt and list.txt
   --z1, --z2, --list FILE  name a file of its own
   --record FILE            where the record goes

@@ -239,6 +239,13 @@ fn the_demo_runs_for_every_set() {
 }
 
 #[test]
+fn the_demo_takes_the_default_of_a_call() {
+    expect(&["demo"], 0, "with set 4 and seed 1");
+    expect(&["demo", "--set", "0"], 0, "with set 4 and seed 1");
+    expect(&["demo", "--set", "1"], 0, "with set 1 and seed 1");
+}
+
+#[test]
 fn the_demo_keeps_all_that_signing_takes() {
     let folder = Folder::new("demo");
     let kept = folder.path("kept");

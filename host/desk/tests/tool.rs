@@ -168,7 +168,7 @@ fn refusals_end_with_number_place_and_meaning() {
         expect(&["key-test", "--set", set, "--folder", &path], 1, said);
     };
     key_test("5", "number 1, place 0: set above 4");
-    key_test("5", "set 5: sets are 1 to 4, and 0 stands for set 1");
+    key_test("5", "set 5: sets are 1 to 4, and 0 stands for set 4");
     let sign = ["sign", "--set", "2", "--folder", &path, "--record", &record];
     expect(&sign, 0, "given out");
     folder.put("words", &[0; 0]);

@@ -1,4 +1,4 @@
-//! The independent second program: the eleven calls of papers 01 and 02, written from the papers,
+//! The independent second program: the thirteen calls of papers 01 and 02, written from the papers,
 //! and the two that tell a set's sizes.
 //!
 //! Every product is the plain signed-wrap sum over whole numbers. Nothing is shared with the
@@ -23,10 +23,10 @@ pub mod testing;
 
 pub use answers::{Reading, Refusal, Response};
 pub use commitment::{commitment, commitment_with_rests};
-pub use comparison::compare;
+pub use comparison::{compare, compare_default_one};
 pub use key::key_test;
 pub use parameters::Set;
-pub use rebuild::rebuild;
+pub use rebuild::{rebuild, rebuild_default_one};
 pub use record::{list_section, read, write, z1_section, z2_section};
 pub use response::respond;
 pub use sizes::{kappa, record_bytes};

@@ -33,7 +33,7 @@ bursztok-second: test files for the desk's tool, made by the second program
       The same of standard input: the vector in two bytes an entry, low first, then the message,
       as 'bursztok check --hash' gives them.
 
-SET is 1 to 4, or 0 for set 1. '-' stands for standard input. Keys and hash are for tests only.
+SET is 1 to 4, or 0 for set 4. '-' stands for standard input. Keys and hash are for tests only.
 Exit status: 0 done, 2 bad usage or bad file.";
 
 fn main() -> ExitCode {

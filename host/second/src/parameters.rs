@@ -31,10 +31,19 @@ pub enum Set {
 impl Set {
     pub const ALL: [Set; 4] = [Set::I, Set::II, Set::III, Set::IV];
 
-    /// The set that a call's number asks for: 0 stands for set 1.
+    /// The set that a call's number asks for: 0 stands for set 4 (02, C-17).
     pub fn asked(number: u32) -> Result<Set, Refusal> {
+        Set::asked_or(Set::IV, number)
+    }
+
+    /// The same on the calls that keep the old default: 0 stands for set 1.
+    pub fn asked_default_one(number: u32) -> Result<Set, Refusal> {
+        Set::asked_or(Set::I, number)
+    }
+
+    fn asked_or(default: Set, number: u32) -> Result<Set, Refusal> {
         match number {
-            0 => Ok(Set::I),
+            0 => Ok(default),
             _ => Set::stated(number).ok_or(Refusal::SET),
         }
     }

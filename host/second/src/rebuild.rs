@@ -17,7 +17,29 @@ pub fn rebuild(
     list: &[u16],
     out: &mut [u16],
 ) -> Result<(), Refusal> {
-    let set = Set::asked(set)?;
+    rebuild_for(Set::asked(set)?, a, z1, z2_dagger, list, out)
+}
+
+/// The rebuild that keeps the old default (02, C-17): 1, 2, 3, 5, 10, 11.
+pub fn rebuild_default_one(
+    set: u32,
+    a: &[u16],
+    z1: &[i16],
+    z2_dagger: &[i8],
+    list: &[u16],
+    out: &mut [u16],
+) -> Result<(), Refusal> {
+    rebuild_for(Set::asked_default_one(set)?, a, z1, z2_dagger, list, out)
+}
+
+fn rebuild_for(
+    set: Set,
+    a: &[u16],
+    z1: &[i16],
+    z2_dagger: &[i8],
+    list: &[u16],
+    out: &mut [u16],
+) -> Result<(), Refusal> {
     require_vectors(&[a.len(), z1.len(), z2_dagger.len(), out.len()])?;
     require_public_range(a)?;
     require_list(set, list)?;

@@ -129,7 +129,7 @@ fn the_hash_is_the_same_from_files_and_from_the_stream() {
         assert_eq!(done(&["hash", &number, &vector, &message], b""), wanted);
         assert_eq!(done(&["hash", &number], &stream), wanted);
     }
-    assert_eq!(done(&["hash", "0"], &stream), done(&["hash", "1"], &stream));
+    assert_eq!(done(&["hash", "0"], &stream), done(&["hash", "4"], &stream));
 
     std::fs::write(&vector, "# nothing\n").unwrap();
     let hash = ["hash", "1", &vector, &message];

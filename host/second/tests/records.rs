@@ -95,14 +95,14 @@ fn what_reads_is_what_the_writer_makes_of_it() {
 }
 
 #[test]
-fn set_zero_is_written_as_set_one() {
+fn set_zero_is_written_as_set_four() {
     let mut noise = Noise::new(43);
-    let (z1, z2_dagger, list) = signature(Set::I, &mut noise);
-    let (mut zero, mut one) = (vec![0; 1606], vec![0; 1606]);
+    let (z1, z2_dagger, list) = signature(Set::IV, &mut noise);
+    let (mut zero, mut four) = (vec![0; 1638], vec![0; 1638]);
     write(0, &z1, &z2_dagger, &list, &mut zero).unwrap();
-    write(1, &z1, &z2_dagger, &list, &mut one).unwrap();
-    assert_eq!(zero, one);
-    assert_eq!(zero[4], 1);
+    write(4, &z1, &z2_dagger, &list, &mut four).unwrap();
+    assert_eq!(zero, four);
+    assert_eq!(zero[4], 4);
     zero[4] = 0;
     assert_eq!(verdict(&zero), Err(Refusal::header(4)));
 }

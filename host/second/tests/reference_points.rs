@@ -43,13 +43,18 @@ fn the_table_of_parameters() {
 }
 
 #[test]
-fn zero_asks_for_set_one_and_five_for_none() {
-    assert_eq!(Set::asked(0), Ok(Set::I));
-    for set in Set::ALL {
-        assert_eq!(Set::asked(set.number()), Ok(set));
+fn zero_asks_for_set_four_or_by_the_old_default_for_set_one_and_five_for_none() {
+    assert_eq!(Set::asked(0), Ok(Set::IV));
+    assert_eq!(Set::asked_default_one(0), Ok(Set::I));
+    for asked in [Set::asked, Set::asked_default_one] {
+        for set in Set::ALL {
+            assert_eq!(asked(set.number()), Ok(set));
+        }
+        assert_eq!(asked(5), Err(Refusal::SET));
+        assert_eq!(asked(u32::MAX), Err(Refusal::SET));
     }
-    assert_eq!(Set::asked(5), Err(Refusal::SET));
-    assert_eq!(Set::asked(u32::MAX), Err(Refusal::SET));
+    // A record states its set: 0 is none there.
+    assert_eq!(Set::stated(0), None);
 }
 
 #[test]
@@ -127,7 +132,12 @@ fn first_places() -> Vec<u16> {
 #[test]
 fn the_thin_key_is_refused() {
     let key = keys::thin();
-    for (set, words) in [(1, 12), (0, 12), (1, 0)] {
+    // 0 stands for set 4, which has 39 places: its list is refused before its counts.
+    for (set, words, refusal) in [
+        (1, 12, Refusal::COUNTS),
+        (1, 0, Refusal::COUNTS),
+        (0, 12, Refusal::LIST),
+    ] {
         let tested = key_test(set, &key.f, &key.g, &key.a);
         assert_eq!(tested, Err(Refusal::COUNTS));
         let (mut z1, mut z2_dagger) = (vec![77; N], vec![77; N]);
@@ -146,7 +156,7 @@ fn the_thin_key_is_refused() {
             &mut z2_dagger,
         );
         let refused = Response {
-            outcome: Err(Refusal::COUNTS),
+            outcome: Err(refusal),
             words: 0,
         };
         assert_eq!(response, refused);

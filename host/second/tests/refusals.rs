@@ -354,7 +354,9 @@ fn rebuild_order() {
             (Refusal::entry(700), &|input| input.z2_dagger[188] = i8::MIN),
             (Refusal::SUM, &|input| input.z1.fill(1500)),
         ];
-        require_order(Call::Rebuild, &right_input(set, 59), order);
+        for call in [Call::Rebuild, Call::RebuildDefaultOne] {
+            require_order(call, &right_input(set, 59), order);
+        }
     }
 }
 
@@ -375,8 +377,10 @@ fn comparison_order() {
             (Refusal::LIST, &|input| input.hashed.reverse()),
             (Refusal::LISTS_DIFFER, &differ),
         ];
-        for order in [claimed, hashed] {
-            require_order(Call::Compare, &right_input(set, 60), order);
+        for call in [Call::Compare, Call::CompareDefaultOne] {
+            for order in [claimed, hashed] {
+                require_order(call, &right_input(set, 60), order);
+            }
         }
     }
 }

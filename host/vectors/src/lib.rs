@@ -1,4 +1,4 @@
-//! A file of test vectors: inputs of all eleven calls, and what the second program leaves behind.
+//! A file of test vectors: inputs of all thirteen calls, and what the second program leaves behind.
 //!
 //! # The file
 //!
@@ -49,8 +49,9 @@
 //! Calls are 1 key test (f, g, a), 2 commitment (a, y1, y2), 3 response (f, g, a, y1, y2, list,
 //! sign, thresholds, words), 4 rebuild (a, z1, z2 dagger, list), 5 comparison (list, hashed list),
 //! 6 writer (z1, z2 dagger, list), 7 reader (record), 8, 9, 10 the z1, z2 dagger and list sections
-//! (record), 11 commitment with rests (a, y1, y2). A call takes its inputs from the slots, at their
-//! lengths. Its elements are 28 bytes (width 1):
+//! (record), 11 commitment with rests (a, y1, y2), 12 and 13 rebuild and comparison with default one
+//! (as 4 and 5). A call takes its inputs from the slots, at their lengths. Its elements are 28 bytes
+//! (width 1):
 //!
 //! ```text
 //! 0-3    set asked for
@@ -60,7 +61,7 @@
 //! 8-9    wanted count of words (response, else 0)
 //! 10-11  wanted start of the part (sections, else 0)
 //! 12-13  wanted length of the part (sections, else 0)
-//! 14-15  length of the rounded output that is lent (commitment, with rests too, and rebuild)
+//! 14-15  length of the rounded output that is lent (commitments and rebuilds)
 //! 16-17  length of the z1 output (response, reader)
 //! 18-19  length of the z2 dagger output (response, reader)
 //! 20-21  length of the list output (reader)

@@ -185,7 +185,7 @@ impl Slots {
         let z1 = (WANTED_Z1, bytes_of(&z1));
         let z2_dagger = (WANTED_Z2_DAGGER, bytes_of(&z2_dagger));
         let outputs = match call {
-            Call::Commitment | Call::Rebuild => vec![rounded],
+            Call::Commitment | Call::Rebuild | Call::RebuildDefaultOne => vec![rounded],
             Call::CommitmentWithRests => vec![rounded, (WANTED_RESTS, bytes_of(&rests))],
             Call::Respond => vec![z1, z2_dagger],
             Call::Write => vec![(WANTED_RECORD, record)],

@@ -8,7 +8,7 @@ use vectors::{replay, vectors, Fault};
 #[test]
 fn the_file_replays_and_reaches_every_number_that_can_occur() {
     let file = vectors(1);
-    assert!(file.len() < 600 * 1024, "{} bytes", file.len());
+    assert!(file.len() < 640 * 1024, "{} bytes", file.len());
     assert_eq!(file, vectors(1));
     let counts = replay(&file).unwrap();
     for call in Call::ALL.into_iter().filter(|call| call.has_number()) {
@@ -89,7 +89,7 @@ fn malformed_entries_are_named() {
         "slot 1 has room for 520, not 521",
     );
     malformed(&[1, 1, 1, 0, 0, 0, 9, 0], "the file ends too soon");
-    malformed(&[3, 12, 1, 0, 0, 0, 0, 0], "no call 12");
+    malformed(&[3, 14, 1, 0, 0, 0, 0, 0], "no call 14");
     malformed(&[3, 1, 1, 0, 0, 0, 0, 0], "a call of 0 bytes");
     malformed(&[4, 1, 1, 0, 0, 0, 0, 0], "no entry of kind 4");
     let zero = "byte 3 of its head is not zero";

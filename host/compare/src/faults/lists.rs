@@ -1,7 +1,6 @@
 //! Lists: refusals 5 and 12.
 
-use super::{fault, place_in, set_of, Fault, WITH_LIST};
-use second::testing::calls::Call::Compare;
+use super::{fault, place_in, set_of, Fault, WITH_HASHED, WITH_LIST};
 use second::testing::calls::Input;
 use second::testing::noise::Noise;
 
@@ -12,13 +11,13 @@ pub const FAULTS: &[Fault] = &[
     fault("form of the list", WITH_LIST, |input, noise| {
         deform(&mut input.list, noise)
     }),
-    fault("count of the hashed list", &[Compare], |input, noise| {
+    fault("count of the hashed list", WITH_HASHED, |input, noise| {
         recount(&mut input.hashed, noise)
     }),
-    fault("form of the hashed list", &[Compare], |input, noise| {
+    fault("form of the hashed list", WITH_HASHED, |input, noise| {
         deform(&mut input.hashed, noise)
     }),
-    fault("the hashed list differs", &[Compare], differ),
+    fault("the hashed list differs", WITH_HASHED, differ),
 ];
 
 fn recount(list: &mut Vec<u16>, noise: &mut Noise) {

@@ -52,18 +52,35 @@ const WITH_SET: &[Call] = &[
     Compare,
     Write,
     CommitmentWithRests,
+    RebuildDefaultOne,
+    CompareDefaultOne,
     Kappa,
     RecordBytes,
 ];
 const WITH_KEY: &[Call] = &[KeyTest, Respond];
-const WITH_PUBLIC: &[Call] = &[KeyTest, Commitment, Respond, Rebuild, CommitmentWithRests];
+const WITH_PUBLIC: &[Call] = &[
+    KeyTest,
+    Commitment,
+    Respond,
+    Rebuild,
+    CommitmentWithRests,
+    RebuildDefaultOne,
+];
 const WITH_MASKS: &[Call] = &[Commitment, Respond, CommitmentWithRests];
-const WITH_ROUNDED: &[Call] = &[Commitment, Rebuild, CommitmentWithRests];
-const WITH_LIST: &[Call] = &[Respond, Rebuild, Compare, Write];
-const WITH_SIGNATURE: &[Call] = &[Rebuild, Write];
+const WITH_ROUNDED: &[Call] = &[Commitment, Rebuild, CommitmentWithRests, RebuildDefaultOne];
+const WITH_LIST: &[Call] = &[
+    Respond,
+    Rebuild,
+    Compare,
+    Write,
+    RebuildDefaultOne,
+    CompareDefaultOne,
+];
+const WITH_HASHED: &[Call] = &[Compare, CompareDefaultOne];
+const WITH_SIGNATURE: &[Call] = &[Rebuild, Write, RebuildDefaultOne];
 const WITH_RECORD: &[Call] = &[Read, Z1Section, Z2Section, ListSection];
 
-/// The set that the input asks for, or set 1 where it asks for none.
+/// The set that the input names, or set 1 where it names none.
 fn set_of(input: &Input) -> Set {
     Set::asked(input.set).unwrap_or(Set::I)
 }

@@ -3,6 +3,7 @@
 #[cfg(target_arch = "x86_64")]
 use second::parameters::KeyCounts;
 use second::testing::calls::Call::{self, *};
+use second::Set;
 use std::cell::Cell;
 use std::fmt;
 
@@ -32,7 +33,9 @@ pub enum Wrong {
     /// A number that is no set has a size.
     NoSet,
     /// 0 is no set.
-    Default,
+    NoDefault,
+    /// 0 stands for this set.
+    Default(u32),
     /// One entry of what is written is off by one.
     Entry(Buffer),
     /// One entry is written on a refusal.
@@ -151,7 +154,8 @@ impl fmt::Display for Wrong {
             Wrong::Length => write!(out, "length of the part off by one"),
             Wrong::Size => write!(out, "off by one"),
             Wrong::NoSet => write!(out, "told for a number that is no set"),
-            Wrong::Default => write!(out, "not told for 0"),
+            Wrong::NoDefault => write!(out, "not told for 0"),
+            Wrong::Default(set) => write!(out, "0 stands for set {set}"),
             Wrong::Entry(buffer) => write!(out, "an entry of {buffer} off"),
             Wrong::Refused(buffer) => write!(out, "an entry of {buffer} written on a refusal"),
             Wrong::Tail(buffer) => write!(out, "the tail of {buffer} written"),
@@ -179,7 +183,7 @@ impl fmt::Display for Buffer {
 /// The buffers that a call writes.
 fn written(call: Call) -> &'static [Buffer] {
     match call {
-        Commitment | Rebuild => &[Rounded],
+        Commitment | Rebuild | RebuildDefaultOne => &[Rounded],
         CommitmentWithRests => &[Rounded, Rests],
         Respond => &[Z1, Z2],
         Write => &[Record],
@@ -191,9 +195,19 @@ fn written(call: Call) -> &'static [Buffer] {
 /// What can be wrong with a call.
 fn wrongs(call: Call) -> Vec<Wrong> {
     if !call.has_number() {
-        return vec![Wrong::Size, Wrong::NoSet, Wrong::Default];
+        return vec![
+            Wrong::Size,
+            Wrong::NoSet,
+            Wrong::NoDefault,
+            Wrong::Default(1),
+        ];
     }
     let mut wrongs = Vec::new();
+    if call.takes_set() {
+        // The other default of the two.
+        let old = call.asked(0) == Ok(Set::I);
+        wrongs.push(Wrong::Default(if old { 4 } else { 1 }));
+    }
     for &number in call.numbers() {
         if number != 0 {
             wrongs.push(Wrong::Missed(number));

@@ -109,9 +109,17 @@ fn has_tail(buffer: Buffer, length: usize) -> bool {
     buffer == Buffer::List || length > bursztok::RECORD
 }
 
+/// The set that a library whose call has the wrong default is asked for with this number.
+fn asked(call: Call, set: u32) -> u32 {
+    match wrong_with(call) {
+        Some(Wrong::Default(other)) if set == 0 => other,
+        _ => set,
+    }
+}
+
 macro_rules! wrapped {
     (
-        $call:ident, $wrap:ident, $real:ident,
+        $call:ident, $wrap:ident, $real:ident, [$($set:ident)?],
         ($($name:ident: $type:ty),* $(,)?) -> $answer:ty,
         |$found:ident, $answered:ident| $spoil:expr
     ) => {
@@ -124,6 +132,7 @@ macro_rules! wrapped {
         #[no_mangle]
         #[allow(clippy::too_many_arguments)]
         pub unsafe extern "C" fn $wrap($($name: $type),*) -> $answer {
+            $(let $set = asked(Call::$call, $set);)?
             let mut $found = unsafe { $real($($name),*) };
             let $answered = Answered::new(Call::$call, $found.number);
             $answered.spoil_answer(&mut $found.number, &mut $found.place);
@@ -135,7 +144,7 @@ macro_rules! wrapped {
 }
 
 wrapped!(
-    KeyTest, __wrap_bursztok_key_test, __real_bursztok_key_test,
+    KeyTest, __wrap_bursztok_key_test, __real_bursztok_key_test, [set],
     (set: u32, f: *const i8, f_len: usize, g: *const i8, g_len: usize, a: *const u16, a_len: usize) -> Answer,
     |found, answered| {
         let (f, g) = (from_raw_parts(f, f_len), from_raw_parts(g, g_len));
@@ -146,7 +155,7 @@ wrapped!(
 );
 
 wrapped!(
-    Commitment, __wrap_bursztok_commitment, __real_bursztok_commitment,
+    Commitment, __wrap_bursztok_commitment, __real_bursztok_commitment, [set],
     (
         set: u32, a: *const u16, a_len: usize, y1: *const i16, y1_len: usize, y2: *const i16,
         y2_len: usize, out: *mut u16, out_len: usize,
@@ -156,7 +165,7 @@ wrapped!(
 
 wrapped!(
     CommitmentWithRests, __wrap_bursztok_commitment_with_rests,
-    __real_bursztok_commitment_with_rests,
+    __real_bursztok_commitment_with_rests, [set],
     (
         set: u32, a: *const u16, a_len: usize, y1: *const i16, y1_len: usize, y2: *const i16,
         y2_len: usize, out: *mut u16, out_len: usize, rests: *mut i16, rests_len: usize,
@@ -168,7 +177,7 @@ wrapped!(
 );
 
 wrapped!(
-    Respond, __wrap_bursztok_respond, __real_bursztok_respond,
+    Respond, __wrap_bursztok_respond, __real_bursztok_respond, [set],
     (
         set: u32, f: *const i8, f_len: usize, g: *const i8, g_len: usize, a: *const u16,
         a_len: usize, y1: *const i16, y1_len: usize, y2: *const i16, y2_len: usize,
@@ -190,7 +199,7 @@ wrapped!(
 );
 
 wrapped!(
-    Rebuild, __wrap_bursztok_rebuild, __real_bursztok_rebuild,
+    Rebuild, __wrap_bursztok_rebuild, __real_bursztok_rebuild, [set],
     (
         set: u32, a: *const u16, a_len: usize, z1: *const i16, z1_len: usize, z2: *const i8,
         z2_len: usize, list: *const u16, list_len: usize, out: *mut u16, out_len: usize,
@@ -199,13 +208,30 @@ wrapped!(
 );
 
 wrapped!(
-    Compare, __wrap_bursztok_compare, __real_bursztok_compare,
+    Compare, __wrap_bursztok_compare, __real_bursztok_compare, [set],
     (set: u32, claimed: *const u16, claimed_len: usize, hashed: *const u16, hashed_len: usize) -> Answer,
     |found, answered| {}
 );
 
 wrapped!(
-    Write, __wrap_bursztok_write, __real_bursztok_write,
+    RebuildDefaultOne, __wrap_bursztok_rebuild_default_one, __real_bursztok_rebuild_default_one,
+    [set],
+    (
+        set: u32, a: *const u16, a_len: usize, z1: *const i16, z1_len: usize, z2: *const i8,
+        z2_len: usize, list: *const u16, list_len: usize, out: *mut u16, out_len: usize,
+    ) -> Answer,
+    |found, answered| answered.spoil_buffer(Buffer::Rounded, out, out_len)
+);
+
+wrapped!(
+    CompareDefaultOne, __wrap_bursztok_compare_default_one, __real_bursztok_compare_default_one,
+    [set],
+    (set: u32, claimed: *const u16, claimed_len: usize, hashed: *const u16, hashed_len: usize) -> Answer,
+    |found, answered| {}
+);
+
+wrapped!(
+    Write, __wrap_bursztok_write, __real_bursztok_write, [set],
     (
         set: u32, z1: *const i16, z1_len: usize, z2: *const i8, z2_len: usize, list: *const u16,
         list_len: usize, out: *mut u8, out_len: usize,
@@ -214,7 +240,7 @@ wrapped!(
 );
 
 wrapped!(
-    Read, __wrap_bursztok_read, __real_bursztok_read,
+    Read, __wrap_bursztok_read, __real_bursztok_read, [],
     (
         record: *const u8, record_len: usize, z1: *mut i16, z1_len: usize, z2: *mut i8,
         z2_len: usize, list: *mut u16, list_len: usize,
@@ -298,11 +324,11 @@ macro_rules! wrapped_size {
         /// None is needed: no pointer is passed.
         #[no_mangle]
         pub unsafe extern "C" fn $wrap(set: u32) -> u32 {
-            let size = unsafe { $real(set) };
+            let size = unsafe { $real(asked(Call::$call, set)) };
             match wrong_with(Call::$call) {
                 Some(Wrong::Size) if size != 0 => size + 1,
                 Some(Wrong::NoSet) if size == 0 => 1,
-                Some(Wrong::Default) if set == 0 => 0,
+                Some(Wrong::NoDefault) if set == 0 => 0,
                 _ => size,
             }
         }

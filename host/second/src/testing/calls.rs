@@ -1,9 +1,10 @@
 //! The calls over one kind of input and answer, for programs that run them all.
 
-use crate::answers::number_and_place;
+use crate::answers::{number_and_place, Refusal};
 use crate::parameters::{Set, LIST_BUFFER, N};
 use crate::record::total;
 use crate::{commitment, commitment_with_rests, compare, key_test, read, rebuild, respond, write};
+use crate::{compare_default_one, rebuild_default_one};
 use crate::{kappa, list_section, record_bytes, z1_section, z2_section};
 
 #[derive(Clone, Copy, Debug, PartialEq, Eq, PartialOrd, Ord)]
@@ -19,12 +20,14 @@ pub enum Call {
     Z2Section,
     ListSection,
     CommitmentWithRests,
+    RebuildDefaultOne,
+    CompareDefaultOne,
     Kappa,
     RecordBytes,
 }
 
 impl Call {
-    pub const ALL: [Call; 13] = [
+    pub const ALL: [Call; 15] = [
         Call::KeyTest,
         Call::Commitment,
         Call::Respond,
@@ -36,6 +39,8 @@ impl Call {
         Call::Z2Section,
         Call::ListSection,
         Call::CommitmentWithRests,
+        Call::RebuildDefaultOne,
+        Call::CompareDefaultOne,
         Call::Kappa,
         Call::RecordBytes,
     ];
@@ -61,14 +66,30 @@ impl Call {
             Call::Z2Section => "z2 section",
             Call::ListSection => "list section",
             Call::CommitmentWithRests => "commitment with rests",
+            Call::RebuildDefaultOne => "rebuild with default one",
+            Call::CompareDefaultOne => "comparison with default one",
             Call::Kappa => "kappa",
             Call::RecordBytes => "record bytes",
         }
     }
 
-    /// Whether it is one of the papers' eleven, which have a number.
+    /// Whether it is one of the papers' thirteen, which have a number.
     pub fn has_number(self) -> bool {
         !matches!(self, Call::Kappa | Call::RecordBytes)
+    }
+
+    /// Whether it is asked for a set.
+    pub fn takes_set(self) -> bool {
+        !Call::ON_RECORD.contains(&self)
+    }
+
+    /// The set that a number asks the call for: 0 stands for set 4, and for set 1 on the calls that
+    /// keep the old default.
+    pub fn asked(self, number: u32) -> Result<Set, Refusal> {
+        match self {
+            Call::RebuildDefaultOne | Call::CompareDefaultOne => Set::asked_default_one(number),
+            _ => Set::asked(number),
+        }
     }
 
     /// The numbers that the call gives: 0, then its refusals in the paper's order. 7, between 15
@@ -78,8 +99,8 @@ impl Call {
             Call::KeyTest => &[0, 1, 2, 3, 15, 6],
             Call::Commitment | Call::CommitmentWithRests => &[0, 1, 2, 3, 4],
             Call::Respond => &[0, 1, 2, 3, 4, 5, 15, 6, 8, 9, 10, 11],
-            Call::Rebuild => &[0, 1, 2, 3, 5, 10, 11],
-            Call::Compare => &[0, 1, 5, 12],
+            Call::Rebuild | Call::RebuildDefaultOne => &[0, 1, 2, 3, 5, 10, 11],
+            Call::Compare | Call::CompareDefaultOne => &[0, 1, 5, 12],
             Call::Write => &[0, 1, 2, 5, 10, 11, 14],
             Call::Read => &[0, 2, 13, 5, 10, 11],
             Call::Z1Section | Call::Z2Section | Call::ListSection => &[0, 13],
@@ -194,7 +215,11 @@ pub fn run(call: Call, input: &Input, out: Outputs) -> Answered {
             commitment_with_rests(*set, a, &input.y1, &input.y2, out.rounded, out.rests)
         }
         Call::Rebuild => rebuild(*set, a, &input.z1, &input.z2_dagger, list, out.rounded),
+        Call::RebuildDefaultOne => {
+            rebuild_default_one(*set, a, &input.z1, &input.z2_dagger, list, out.rounded)
+        }
         Call::Compare => compare(*set, list, &input.hashed),
+        Call::CompareDefaultOne => compare_default_one(*set, list, &input.hashed),
         Call::Write => write(*set, &input.z1, &input.z2_dagger, list, out.record),
         Call::Respond => {
             let response = respond(

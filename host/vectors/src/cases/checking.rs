@@ -2,7 +2,7 @@
 
 use super::faults::ROUNDED_OUTPUT;
 use super::Recording;
-use crate::slots::{A, HASHED, LIST, RECORD, Z1, Z2_DAGGER};
+use crate::slots::{Asked, A, HASHED, LIST, RECORD, Z1, Z2_DAGGER};
 use second::parameters::N;
 use second::record::header;
 use second::testing::boundary::{largest_z2_dagger, signature_of_sum};
@@ -10,41 +10,59 @@ use second::testing::calls::Call;
 use second::testing::sheet::Signature;
 use second::Set;
 
+/// The calls that rebuild, and those that compare: with each default.
+pub(super) const REBUILDING: [Call; 2] = [Call::Rebuild, Call::RebuildDefaultOne];
+pub(super) const COMPARING: [Call; 2] = [Call::Compare, Call::CompareDefaultOne];
+
 impl Recording<'_> {
     pub(super) fn rebuild_refusals(&mut self, signature: &Signature) {
-        let asked = self.asked();
-        let call = Call::Rebuild;
-        self.sets_and_lengths(call, asked, &[(A, N), (Z1, N), (Z2_DAGGER, N)]);
-        self.output_lengths(call, asked, &[ROUNDED_OUTPUT]);
-        self.recorder.patched(A, 511, 12289u16, |recorder| {
-            recorder.call(call, asked);
-            // Two faults: the list's comes after the coefficient's.
-            recorder.patched(LIST, 0, 512u16, |recorder| {
+        for call in REBUILDING {
+            let asked = self.asked_of(call);
+            self.sets_and_lengths(call, asked, &[(A, N), (Z1, N), (Z2_DAGGER, N)]);
+            self.output_lengths(call, asked, &[ROUNDED_OUTPUT]);
+            self.recorder.patched(A, 511, 12289u16, |recorder| {
+                recorder.call(call, asked);
+                // Two faults: the list's comes after the coefficient's.
+                recorder.patched(LIST, 0, 512u16, |recorder| {
+                    recorder.call(call, asked);
+                });
+            });
+            self.list_faults(LIST, &signature.list, |recorder| {
                 recorder.call(call, asked);
             });
-        });
-        self.list_faults(LIST, &signature.list, |recorder| {
-            recorder.call(call, asked);
-        });
-        self.entry_faults(call, asked);
+            self.entry_faults(call, asked);
+        }
     }
 
     pub(super) fn comparisons(&mut self, list: &[u16]) {
-        let asked = self.asked();
-        self.sets_and_lengths(Call::Compare, asked, &[]);
-        for slot in [LIST, HASHED] {
-            self.list_faults(slot, list, |recorder| {
-                recorder.call(Call::Compare, asked);
+        for call in COMPARING {
+            let asked = self.asked_of(call);
+            self.sets_and_lengths(call, asked, &[]);
+            for slot in [LIST, HASHED] {
+                self.list_faults(slot, list, |recorder| {
+                    recorder.call(call, asked);
+                });
+            }
+            let other = self.noise.list(self.set);
+            self.recorder.load(HASHED, &other);
+            self.recorder.call(call, asked);
+            // Two faults: the form comes before the difference.
+            self.recorder.patched(LIST, 0, 512u16, |recorder| {
+                recorder.call(call, asked);
             });
+            self.recorder.load(HASHED, list);
         }
-        let other = self.noise.list(self.set);
-        self.recorder.load(HASHED, &other);
-        self.call(Call::Compare);
-        // Two faults: the form comes before the difference.
-        self.recorder.patched(LIST, 0, 512u16, |recorder| {
-            recorder.call(Call::Compare, asked);
-        });
-        self.recorder.load(HASHED, list);
+    }
+
+    /// A call of the set: with 0 on a call that keeps the old default, where that stands for it.
+    fn asked_of(&self, call: Call) -> Asked {
+        match call {
+            Call::RebuildDefaultOne | Call::CompareDefaultOne if self.set == Set::I => Asked {
+                set: 0,
+                ..self.asked()
+            },
+            _ => self.asked(),
+        }
     }
 
     /// Sums exactly at B2 squared and one past it, and for set I every entry at largest.

@@ -1,6 +1,7 @@
 //! The cases of the file.
 
 mod checking;
+mod defaults;
 mod faults;
 mod keys;
 mod records;
@@ -34,6 +35,7 @@ pub fn vectors(seed: u64) -> Vec<u8> {
         recording.word_counts(&signed.last_try);
         recording.rebuild_refusals(&signed.signature);
         recording.comparisons(&signed.signature.list);
+        recording.defaults(&signed.last_try);
         recording.writer_refusals(&signed.signature);
         recording.reader_refusals(&signed.signature);
         recording.sums();

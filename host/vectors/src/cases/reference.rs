@@ -1,8 +1,9 @@
 //! 01's reference points, and 02's rests beside them.
 
+use super::checking::{COMPARING, REBUILDING};
 use super::{asked, load_key};
 use crate::recorder::Recorder;
-use crate::slots::{LIST, THRESHOLDS, WORDS, Y1, Y2, Z1, Z2_DAGGER};
+use crate::slots::{HASHED, LIST, THRESHOLDS, WORDS, Y1, Y2, Z1, Z2_DAGGER};
 use second::parameters::N;
 use second::testing::calls::Call;
 use second::testing::keys;
@@ -29,8 +30,14 @@ pub fn reference_point(recorder: &mut Recorder) {
     let z1: Vec<i16> = (0..N).map(|i| if i < 23 { -1 } else { 0 }).collect();
     recorder.load(Z1, &z1);
     recorder.load(Z2_DAGGER, &[0i8; N]);
-    recorder.call(Call::Rebuild, asked(0));
-    recorder.call(Call::Write, asked(0));
+    // A sheet of set 1 with 0, which stands for set 4: refused with 5, and done by the old default.
+    recorder.load(HASHED, &(0..23).collect::<Vec<u16>>());
+    for set in [0, 1] {
+        for call in REBUILDING.into_iter().chain(COMPARING) {
+            recorder.call(call, asked(set));
+        }
+        recorder.call(Call::Write, asked(set));
+    }
     for (entry, beyond) in [(2100, 2101), (-2100, -2101)] {
         for value in [entry, beyond] {
             recorder.patched(Z1, 40, value as i16, |recorder| {
