@@ -50,7 +50,7 @@ module _ (n m : ℕ) (same : askedOf n ≡ askedOf m) where
   }
 
 pub zero-is-four : ZeroIsFour
-zero-is-four = same-calls 0 4 (asked-zero ∙ sym (asked-back IV))
+zero-is-four = same-calls _ _ (asked-zero ∙ sym (asked-back IV))
 
 -- ---- the old default
 pub default-one : DefaultOne
