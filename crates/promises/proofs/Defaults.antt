@@ -22,8 +22,8 @@ use Rattle.vectors.proofs.Rising.{proper-count}
 use Rattle.keys.specs.Key.{isResidue, keyTest}
 use Rattle.keys.proofs.Ranges.{a-residues}
 use Rattle.commitment.specs.Commitment.{commitment, commitmentWithRests}
-use Rattle.signing.specs.Response.{Lent, responded, response}
-use Rattle.checking.specs.Checking.{Claim, claim, rebuild, comparison}
+use Rattle.signing.specs.Response.{responded, response}
+use Rattle.checking.specs.Checking.{claim, rebuild, comparison}
 use Rattle.byte_codes.specs.Bytes.{bytesOf}
 use Rattle.record_forms.specs.Headers.{headerOf}
 use Rattle.records.specs.Signatures.{signature, recordOf}

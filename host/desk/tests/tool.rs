@@ -160,6 +160,23 @@ fn a_check_without_a_hash_is_no_check() {
 }
 
 #[test]
+fn zero_is_set_four() {
+    let folder = Folder::new("zero");
+    files_of(Set::IV, &folder);
+    let (path, record) = (folder.path(""), folder.path("record"));
+    let key_test = ["key-test", "--set", "0", "--folder", &path];
+    expect(&key_test, 0, "The key passes");
+    let sign = ["sign", "--set", "0", "--folder", &path, "--record", &record];
+    expect(&sign, 0, "The record of 1638 bytes");
+    expect(&["inspect", &record], 0, "a signature of set 4");
+    // A key of another set: the cause names the set that 0 stands for.
+    files_of(Set::I, &folder);
+    expect(&key_test, 1, "number 15, place 0");
+    let wants = "set 0, which stands for set 4, wants 231 and 31";
+    expect(&key_test, 1, wants);
+}
+
+#[test]
 fn refusals_end_with_number_place_and_meaning() {
     let folder = Folder::new("refusals");
     let key = files_of(Set::II, &folder).key;
