@@ -1,5 +1,5 @@
 /*
- * bursztok.h - BLISS-B signing and checking, parameter sets I to IV.
+ * bursztok.h - BLISS-B signing and checking, parameter sets 1 to 8.
  *
  * Link with libbursztok.a or libbursztok.so (pkg-config --libs bursztok). C99 and later, and C++.
  *
@@ -32,9 +32,9 @@
  *
  *    No.  When
  *     0   done
- *     1   set above 4
+ *     1   set above 8
  *     2   a vector, read or written, is not 512 long, thresholds not 31, or the reader's list
- *         buffer not 39
+ *         buffer not 113
  *     3   coefficient of f, g or a outside its range
  *     4   mask coefficient outside -4096 .. 4096
  *     5   list not of the stated form, its count included
@@ -54,10 +54,12 @@
  *
  * SETS
  *
- *   On calls `set` is 1 to 4 for BLISS-B I to IV. 0 stands for set 4, on every call but the two
- *   whose names end in _default_one. bursztok_kappa and bursztok_record_bytes tell kappa and the
- *   bytes of a record, for callers that hold no table. f and g each have d1 coefficients of 1 or -1
- *   and d2 of 2 or -2, the rest zero.
+ *   On calls `set` is 1 to 4 for BLISS-B I to IV, and 5 to 8 for the same four with longer
+ *   challenges: kappa aside, sets 5 to 8 have the numbers of sets 1 to 4, so a key of set 1 is a key
+ *   of set 5, and so on. 0 stands for set 4, on every call but the two whose names end in
+ *   _default_one. bursztok_kappa and bursztok_record_bytes tell kappa and the bytes of a record, for
+ *   callers that hold no table. f and g each have d1 coefficients of 1 or -1 and d2 of 2 or -2, the
+ *   rest zero.
  *
  *   Before version 0.4.0 a set of 0 stood for set 1. A caller that passes 0 for sheets of set 1 is
  *   now refused with 5 by bursztok_rebuild and bursztok_compare, since 23 places are not 39. It
@@ -69,6 +71,14 @@
  *     2     23   10  24     1563  122,633,476   775  154   0          1606
  *     3     30    9  48     1760  104,162,436  1409  216  16          1620
  *     4     39    8  96     1613   98,029,801  1784  231  31          1638
+ *     5     58   as set 1                                             1676
+ *     6     58   as set 2                                             1676
+ *     7     82   as set 3                                             1724
+ *     8    113   as set 4                                             1786
+ *
+ *   Sets 5 to 8 are there since version 0.5.0. A reader from before refuses their records with 13
+ *   at byte 4, where the set stands. Records of sets 1 to 4 are what they were, byte for byte; what
+ *   a caller changes for them is the reader's list buffer, BURSZTOK_LIST, which was 39.
  *
  * VECTORS
  *
@@ -100,23 +110,23 @@ extern "C" {
 #endif
 
 /* The version of this header and of the library that it belongs to. */
-#define BURSZTOK_VERSION "0.4.0"
+#define BURSZTOK_VERSION "0.5.0"
 
 /* The length of every vector. */
 #define BURSZTOK_VECTOR 512
 /* The length of the row of thresholds. */
 #define BURSZTOK_THRESHOLDS 31
 /* The length of the reader's list buffer: no list is longer. */
-#define BURSZTOK_LIST 39
+#define BURSZTOK_LIST 113
 /* The length of the longest record. */
-#define BURSZTOK_RECORD 1638
+#define BURSZTOK_RECORD 1786
 
 /* The stack that a call takes at most, in bytes: see STATE, THREADS, STACK. */
 #define BURSZTOK_STACK_RESPOND 11300
 #define BURSZTOK_STACK_KEY_TEST 5800
 /* With default one too. */
 #define BURSZTOK_STACK_REBUILD 4000
-#define BURSZTOK_STACK_READ 3000
+#define BURSZTOK_STACK_READ 3200
 /* With rests too. */
 #define BURSZTOK_STACK_COMMITMENT 2800
 #define BURSZTOK_STACK_WRITE 1300
@@ -126,7 +136,7 @@ extern "C" {
 /* The numbers that come back: see ANSWERS. */
 enum bursztok_number {
     BURSZTOK_DONE = 0,
-    BURSZTOK_SET_ABOVE_FOUR = 1,
+    BURSZTOK_NO_SUCH_SET = 1,
     BURSZTOK_LENGTH = 2,
     BURSZTOK_COEFFICIENT = 3,
     BURSZTOK_MASK = 4,
@@ -140,7 +150,9 @@ enum bursztok_number {
     BURSZTOK_LISTS_DIFFER = 12,
     BURSZTOK_HEADER = 13,
     BURSZTOK_OUTPUT_SHORT = 14,
-    BURSZTOK_KEY_COUNTS = 15
+    BURSZTOK_KEY_COUNTS = 15,
+    /* The name of 1 before version 0.5.0, when there were four sets. */
+    BURSZTOK_SET_ABOVE_FOUR = BURSZTOK_NO_SUCH_SET
 };
 
 typedef struct {
@@ -154,7 +166,7 @@ typedef struct {
     uint64_t words;
 } bursztok_response;
 
-/* `set` is the set that the record states, 1 to 4, and 0 when the reader refuses. */
+/* `set` is the set that the record states, 1 to 8, and 0 when the reader refuses. */
 typedef struct {
     uint32_t number, place, set;
 } bursztok_reading;
@@ -209,7 +221,7 @@ bursztok_answer bursztok_commitment_with_rests(uint32_t set,
  * The response to a list: z1 and z2 dagger of the signature, for the masks that the list was
  * made from. sign is the random sign bit; it must be 0 or 1. An entry of z2 stands for the z2 of
  * the papers, with d binary digits dropped: 2^d times the entry differs from it by at most
- * 2^d + 1, that is 1025, 1025, 513, 257 for sets 1 to 4.
+ * 2^d + 1, that is 1025, 1025, 513, 257 for sets 1 to 4, and as much for sets 5 to 8.
  *
  * Refusals in order: 1, 2, 3, 4, 5, 15, 7, 6, then 8 or 9 as the walk ends, then 10, 11.
  * Number 0 writes all of z1 and z2 (512 entries each). 2 covers z1 and z2 too.
@@ -288,7 +300,8 @@ bursztok_answer bursztok_write(uint32_t set,
 /*
  * The record reader. record_len must be exactly the length of the record: under 24 bytes it is 13
  * at the length, and with the fields before byte 18 right any other length is 13 at 18. list_len
- * must be 39.
+ * must be 113. A record of a set that the reader does not know is 13 at 4: that is what a reader
+ * from before version 0.5.0 answers to one of sets 5 to 8.
  *
  * Refusals in order: 2, 13, 5, 10, 11. Number 0 writes all of z1 and z2 (512 entries each) and
  * the first kappa entries of list; the entries after them keep their contents.
@@ -315,13 +328,14 @@ bursztok_part bursztok_list_section(const uint8_t *record, size_t record_len,
 
 /*
  * kappa, the count of places in a list, of the set that a number stands for on a call: 23, 23, 30,
- * 39 for 1 to 4, 39 for 0, which stands for set 4, and 0 for any other number, which is no set.
+ * 39, 58, 58, 82, 113 for 1 to 8, 39 for 0, which stands for set 4, and 0 for any other number, which
+ * is no set.
  */
 uint32_t bursztok_kappa(uint32_t set);
 
 /*
- * The bytes of a record of that set: 1606, 1606, 1620, 1638 for 1 to 4, 1638 for 0, and 0 for a
- * number that is no set.
+ * The bytes of a record of that set: 1606, 1606, 1620, 1638, 1676, 1676, 1724, 1786 for 1 to 8, 1638
+ * for 0, and 0 for a number that is no set.
  */
 uint32_t bursztok_record_bytes(uint32_t set);
 

@@ -13,7 +13,7 @@
 #include <stdio.h>
 #include <string.h>
 
-#define SETS 4
+#define SETS 8
 #define WORDS 4096
 #define REGION 65536
 
@@ -57,16 +57,18 @@ static uint32_t value(uint32_t factor, uint32_t term, uint32_t x)
     return (sum + term) % 12289;
 }
 
-/* A key with f = g, coefficients of 1 and then of 2, as many as the set has: a = (2f + 1) / f,
- * divided at the 512 roots of x^512 + 1 modulo 12289, the odd powers of 49. */
+/* A key with f = g, coefficients of 1 and then of 2, as many as the set has, which are those of the
+ * set of 1 to 4 that it is like: a = (2f + 1) / f, divided at the 512 roots of x^512 + 1 modulo
+ * 12289, the odd powers of 49. */
 static void make_key(void)
 {
-    static const int ones[SETS] = {154, 154, 216, 231}, twos[SETS] = {0, 0, 16, 31};
+    static const int ones[] = {154, 154, 216, 231}, twos[] = {0, 0, 16, 31};
+    const uint32_t like = (set - 1) % 4;
+    const int end = ones[like] + twos[like];
     uint32_t quotient[BURSZTOK_VECTOR];
 
     for (int i = 0; i < BURSZTOK_VECTOR; i++) {
-        int end = ones[set - 1] + twos[set - 1];
-        f[i] = (int8_t)(i < ones[set - 1] ? 1 : i < end ? 2 : 0);
+        f[i] = (int8_t)(i < ones[like] ? 1 : i < end ? 2 : 0);
         g[i] = f[i];
     }
     for (uint32_t k = 0; k < BURSZTOK_VECTOR; k++) {
@@ -286,8 +288,11 @@ int main(void)
             }
         }
     }
-    printf("%-31s %7s %7s %7s %7s %8s\n", "bytes of stack", "set 1", "set 2", "set 3", "set 4",
-           "at most");
+    printf("%-31s", "bytes of stack");
+    for (int s = 1; s <= SETS; s++) {
+        printf("   set %d", s);
+    }
+    printf(" %8s\n", "at most");
     for (size_t i = 0; i < calls; i++) {
         printf("%-31s", rows[i].name);
         for (int s = 0; s < SETS; s++) {

@@ -42,6 +42,10 @@ fn main() {
         b"set 4, masks -123 and -222, changed after it was sent\n",
         masked(4, -123, -222),
     );
+    changed(
+        b"set 8, masks 90 and -60, changed after it was sent\n",
+        masked(8, 90, -60),
+    );
 }
 
 // ---- the cases
@@ -61,6 +65,19 @@ fn every_set() {
         b"set 0, which stands for 4, masks -301 and 203",
         masked(0, -301, 203),
     );
+    print(b"the same masks on each, 90 and -60\n");
+    each_set();
+}
+
+fn each_set() {
+    for set in 1..Set::LAST + 1 {
+        same_masks(set);
+    }
+}
+
+fn same_masks(set: u32) {
+    number(b"  set ", set as u64);
+    answered(masked(set, 90, -60));
 }
 
 fn draws() {
@@ -132,12 +149,30 @@ fn other_keys() {
         keyed(3, 3, true, -31, 64, true),
     );
     run(b"set 4, masks 17 and 5", keyed(4, 4, true, 17, 5, false));
+    longer_lists();
+}
+
+// A key of the set that a set is like is a key of it.
+fn longer_lists() {
+    run(
+        b"set 5, a key of set 1, masks 150 and 75",
+        keyed(5, 1, true, 150, 75, false),
+    );
+    run(
+        b"set 8, a key of set 4, sign bit 1, masks 17 and 5",
+        keyed(8, 4, true, 17, 5, true),
+    );
+    run(
+        b"set 1, a key of set 5, masks 150 and 75",
+        keyed(1, 5, true, 150, 75, false),
+    );
 }
 
 fn refusals() {
     print(b"no signature is given out\n");
-    run(b"set 5", masked(5, 0, 0));
+    run(b"set 9", masked(9, 0, 0));
     run(b"set 1, the list of set 3", related(3, 0));
+    run(b"set 1, the list of set 5", related(5, 0));
     run(
         b"set 1, a key of set 3: counts wrong",
         keyed(1, 3, false, 0, 0, false),
@@ -184,12 +219,16 @@ fn related(list_of: u32, more: u16) -> Case {
 // ---- one case
 
 fn run(text: &[u8], c: Case) {
+    print(b"  ");
+    print(text);
+    answered(c);
+}
+
+fn answered(c: Case) {
     let mut rec = [0u8; Set::RECORD_LIMIT];
     let mut committed = [0u16; Set::DIMENSION];
     let r = sent(c, &mut rec, &mut committed);
     let outcome = r.outcome;
-    print(b"  ");
-    print(text);
     number(b": response ", outcome.number() as u64);
     number(b", words taken ", r.words as u64);
     if outcome.is_done() {
@@ -230,13 +269,13 @@ fn sent(c: Case, rec: &mut [u8], committed: &mut [u16]) -> Response {
 fn first(c: Case) -> [i8; Set::DIMENSION]
     ensures { λ r. ⌜ length r ≡ dimension ⌝ }
 {
-    test_keys::polynomial(test_keys::shape_of(set_of(c.key_of), true))
+    test_keys::polynomial(test_keys::shape_of(c.key_of, true))
 }
 
 fn second(c: Case) -> [i8; Set::DIMENSION]
     ensures { λ r. ⌜ length r ≡ dimension ⌝ }
 {
-    test_keys::polynomial(test_keys::shape_of(set_of(c.key_of), c.turned))
+    test_keys::polynomial(test_keys::shape_of(c.key_of, c.turned))
 }
 
 fn public_key(c: Case) -> [u16; Set::DIMENSION]
@@ -247,14 +286,6 @@ fn public_key(c: Case) -> [u16; Set::DIMENSION]
     let mut a = test_keys::public_key(&f, &g);
     a[5] = std::num::wrapping_add_u16(a[5], c.more);
     a
-}
-
-// The set that a number stands for, and set 1 where there is none.
-fn set_of(set: u32) -> Set {
-    match Set::asked(set) {
-        Asked::Unknown => Set::I,
-        Asked::Known(s) => s,
-    }
 }
 
 // Of the set that a number stands for, and 0 where there is none.

@@ -1,9 +1,11 @@
 // The comparison.
-ghost use Prim.Native.Nat.{_<_};
+ghost use Prim.Native.Nat.{_≤_};
+ghost use Rattle.sets.specs.Numbers.{listLimit};
 use bursztok::bursztok_compare;
 use bursztok::bursztok_compare_default_one;
 use lending::rows;
 use lending::show;
+use sets::Set;
 
 pub fn run() {
     show::heading(b"comparison of 0, 1, 2, .. with itself, changed");
@@ -19,7 +21,9 @@ pub fn run() {
     claimed(b"set 1, 22 places", 1, 22, 0, 0);
     claimed(b"set 1, 24 places", 1, 24, 0, 0);
     claimed(b"set 1, no place", 1, 0, 0, 0);
-    claimed(b"set 5, a falling place", 5, 23, 5, 3);
+    claimed(b"set 9, a falling place", 9, 23, 5, 3);
+    show::heading(b"comparison, each set: its own list with itself, and without its last place");
+    each_set();
     show::heading(b"comparison, the hashed list changed");
     hashed(b"last place 30", 23, 22, 30);
     hashed(b"last place 512", 23, 22, 512);
@@ -37,7 +41,28 @@ fn default_one() {
     both(b"set 4, 39 places", 4, 39, 39);
     both(b"set 0, 23 and 22 places", 0, 23, 22);
     both(b"set 0, 22 and 23 places", 0, 22, 23);
-    both(b"set 5, 23 places", 5, 23, 23);
+    both(b"set 9, 23 places", 9, 23, 23);
+}
+
+// The list of each set, and one of its places less.
+fn each_set() {
+    for set in 0..Set::LAST + 2 {
+        own(set);
+    }
+}
+
+fn own(set: u32) {
+    let list = rows::places(0, 0);
+    let kappa = bursztok::bursztok_kappa(set) as usize;
+    let whole = lending::first_whole(&list, kappa);
+    let short = lending::first_whole(&list, if kappa == 0 { 0 } else { kappa - 1 });
+    show::number_after(b"  set ", set as u64);
+    show::number_after(b", ", kappa as u64);
+    show::answered(b" places", b"", bursztok_compare(set, whole, whole));
+    show::answer(
+        b"  the claimed list one shorter",
+        bursztok_compare(set, short, whole),
+    );
 }
 
 fn both(text: &[u8], set: u32, count: usize, other: usize) {
@@ -53,7 +78,7 @@ fn both(text: &[u8], set: u32, count: usize, other: usize) {
 
 // The claimed list has so many places, one of them changed.
 fn claimed(text: &[u8], set: u32, count: usize, at: usize, place: u16)
-    requires { ⌜ at < 40 ⌝ }
+    requires { ⌜ at ≤ listLimit ⌝ }
 {
     let list = rows::places(at, place);
     let other = rows::places(0, 0);
@@ -64,7 +89,7 @@ fn claimed(text: &[u8], set: u32, count: usize, at: usize, place: u16)
 }
 
 fn hashed(text: &[u8], count: usize, at: usize, place: u16)
-    requires { ⌜ at < 40 ⌝ }
+    requires { ⌜ at ≤ listLimit ⌝ }
 {
     let list = rows::places(0, 0);
     let other = rows::places(at, place);

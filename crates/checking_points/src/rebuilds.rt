@@ -1,5 +1,6 @@
 // The rebuild.
 ghost use Prim.Native.Nat.{_≤_, _<_};
+ghost use Rattle.sets.specs.Numbers.{dimension, listLimit};
 use lending::rows;
 use lending::show;
 use sets::Set;
@@ -15,9 +16,7 @@ pub fn run() {
         0,
     );
     signature(b"set 1, z1 = 0: 12289 at each listed place", 1, 23, 0, 0);
-    signature(b"set 3, z1 = 0", 3, 30, 0, 0);
-    signature(b"set 4, z1 = 0", 4, 39, 0, 0);
-    signature(b"set 0, which stands for 4, the same", 0, 39, 0, 0);
+    each_set();
     signature(
         b"set 1, z1 = -1 at 0 to 22, z2 dagger -1 at 0 to 22",
         1,
@@ -25,13 +24,38 @@ pub fn run() {
         -1,
         -1,
     );
-    signature(b"set 5", 5, 23, 0, 0);
+    signature(b"set 9", 9, 23, 0, 0);
+    signature(b"set 5, the 23 places of set 1", 5, 23, 0, 0);
+    signature(b"set 8, the 39 places of set 4", 8, 39, 0, 0);
+    signature(b"set 4, the 113 places of set 8", 4, 113, 0, 0);
     default_one();
     largest();
     sums();
     improper();
     lengths();
     faults();
+}
+
+// A list of its own count of places, 0 and 9 included.
+fn each_set() {
+    for set in 0..Set::LAST + 2 {
+        own(set);
+    }
+}
+
+fn own(set: u32) {
+    let mut a = [0u16; Set::DIMENSION];
+    let z1 = [0i16; Set::DIMENSION];
+    let z2 = [0i8; Set::DIMENSION];
+    let places = rows::places(0, 0);
+    let kappa = bursztok::bursztok_kappa(set) as usize;
+    let list = lending::first_whole(&places, kappa);
+    let mut out = [show::OLD; 513];
+    a[0] = 1;
+    let r = lending::rebuild(set, &a, &z1, &z2, list, &mut out, 512);
+    show::number_after(b"  set ", set as u64);
+    show::number_after(b", its ", kappa as u64);
+    show::filled_after(b" places, z1 = 0", r, &out);
 }
 
 // The rebuild that keeps the old default, for the desk that passes 0 for sheets of set 1.
@@ -44,11 +68,12 @@ fn default_one() {
     kept(b"set 3, 30 places, z1 = 0", 3, 30, 512, 0);
     kept(b"set 0, z1 = 2101 at 0 to 22", 0, 23, 512, 2101);
     kept(b"set 0, output 511 long, 39 places", 0, 39, 511, 0);
-    kept(b"set 5, output 511 long", 5, 23, 511, 0);
+    kept(b"set 8, 113 places, z1 = 0", 8, 113, 512, 0);
+    kept(b"set 9, output 511 long", 9, 23, 511, 0);
 }
 
 fn kept(text: &[u8], set: u32, kappa: usize, out_len: usize, z1_all: i16)
-    requires { ⌜ kappa ≤ 40 ⌝ }
+    requires { ⌜ kappa ≤ dimension ⌝ }
 {
     let mut a = [0u16; Set::DIMENSION];
     let z1 = rows::wide(kappa, z1_all);
@@ -99,6 +124,21 @@ fn largest() {
     entry(b"set 3, z1 1761", 3, 30, 0, 1761, 0, 0);
     entry(b"set 4, z1 1613", 4, 39, 0, 1613, 0, 0);
     entry(b"set 4, z1 1614", 4, 39, 0, 1614, 0, 0);
+    longer();
+}
+
+// Sets 5 to 8 keep the limits of sets 1 to 4.
+fn longer() {
+    entry(b"set 5, z1 2100", 5, 58, 0, 2100, 0, 0);
+    entry(b"set 5, z1 2101", 5, 58, 0, 2101, 0, 0);
+    entry(b"set 6, z1 1563", 6, 58, 0, 1563, 0, 0);
+    entry(b"set 6, z1 1564", 6, 58, 0, 1564, 0, 0);
+    entry(b"set 7, z1 1760", 7, 82, 0, 1760, 0, 0);
+    entry(b"set 7, z1 1761", 7, 82, 0, 1761, 0, 0);
+    entry(b"set 8, z1 1613", 8, 113, 0, 1613, 0, 0);
+    entry(b"set 8, z1 1614", 8, 113, 0, 1614, 0, 0);
+    entry(b"set 8, z2 dagger 6 at 0", 8, 113, 0, 0, 0, 6);
+    entry(b"set 8, z2 dagger 7 at 0", 8, 113, 0, 0, 0, 7);
 }
 
 // Sums of squares: 37 times 2100, 1586, 54, 6, 6 make 165,688,384.
@@ -144,8 +184,8 @@ fn faults() {
         b"rebuild: several faults, a sum of squares of 512 times 2100 squared among them",
     );
     faulty(
-        b"set 5, output 511 long, a 12289, list, z1 2101 at 3",
-        5,
+        b"set 9, output 511 long, a 12289, list, z1 2101 at 3",
+        9,
         511,
         12289,
         0,
@@ -167,7 +207,7 @@ fn faults() {
 
 // The first kappa entries of both vectors are these.
 fn signature(text: &[u8], set: u32, kappa: usize, z1_all: i16, z2_all: i8)
-    requires { ⌜ kappa ≤ 40 ⌝ }
+    requires { ⌜ kappa ≤ dimension ⌝ }
 {
     let mut a = [0u16; Set::DIMENSION];
     a[0] = 1;
@@ -222,7 +262,7 @@ fn sized(text: &[u8], a_len: usize, z1_len: usize, z2_len: usize, out_len: usize
 }
 
 fn listed(text: &[u8], kappa: usize, at: usize, place: u16)
-    requires { ⌜ at < 40 ⌝ }
+    requires { ⌜ at ≤ listLimit ⌝ }
 {
     let a = [0u16; Set::DIMENSION];
     let z1 = [0i16; Set::DIMENSION];

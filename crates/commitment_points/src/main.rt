@@ -88,7 +88,8 @@ fn ranges() {
     one(b"a 12289", 1, 12289, 0, 0);
     one(b"set 4, y2 128", 4, 1, 0, 128);
     one(b"set 0, which stands for 4, y2 128", 0, 1, 0, 128);
-    one(b"set 5", 5, 1, 0, 0);
+    one(b"set 8, y2 128", 8, 1, 0, 128);
+    one(b"set 9", 9, 1, 0, 0);
 }
 
 fn lengths() {
@@ -116,7 +117,7 @@ fn lengths() {
 // Several faults at once: the first in the order 1, 2, 3, 4. Every mask coefficient is beyond the limit.
 fn faults() {
     show::heading(b"commitment: several faults, masks of 4097 among them");
-    masked(b"set 5, output 511 long, a 12289", 5, 511, 12289);
+    masked(b"set 9, output 511 long, a 12289", 9, 511, 12289);
     masked(b"output 511 long, a 12289", 1, 511, 12289);
     masked(b"a 12289", 1, 512, 12289);
     masked(b"masks alone", 1, 512, 12288);

@@ -1,17 +1,20 @@
 // Rows that the cases are made of.
 ghost use mathlib.Core.Path.{_≡_};
-ghost use Prim.Native.Nat.{_≤_, _<_};
+ghost use Prim.Native.Nat.{_+_, _≤_};
 ghost use lib.ListN.{length};
-ghost use Rattle.sets.specs.Numbers.{dimension};
+ghost use Rattle.sets.specs.Numbers.{dimension, listLimit};
 use sets::Set;
 
-// 0, 1, .., 39, with one entry exchanged: its first kappa entries are a proper list as long as it rises.
-pub fn places(at: usize, place: u16) -> [u16; 40]
-    requires { ⌜ at < 40 ⌝ }
-    ensures { λ r. ⌜ length r ≡ 40 ⌝ }
+// One place more than the longest list has.
+pub const PLACES: usize = Set::LIST_LIMIT + 1;
+
+// 0, 1, 2, .., with one entry exchanged: its first kappa entries are a proper list as long as it rises.
+pub fn places(at: usize, place: u16) -> [u16; PLACES]
+    requires { ⌜ at ≤ listLimit ⌝ }
+    ensures { λ r. ⌜ length r ≡ listLimit + 1 ⌝ }
 {
-    let mut list = [0u16; 40];
-    for i in 0..40 {
+    let mut list = [0u16; PLACES];
+    for i in 0..PLACES {
         list[i] = i as u16;
     }
     list[at] = place;

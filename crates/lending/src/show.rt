@@ -37,7 +37,14 @@ pub fn number_after(text: &[u8], n: u64) {
 
 // A call with an output vector.
 pub fn filled(text: &[u8], r: Answer, out: &[u16]) {
-    start(text, r);
+    print(b"  ");
+    filled_after(text, r, out);
+}
+
+// The same, where the line was begun with numbers.
+pub fn filled_after(text: &[u8], r: Answer, out: &[u16]) {
+    print(text);
+    told(r);
     digits(r, out);
     print(b"\n");
 }

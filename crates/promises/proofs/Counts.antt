@@ -14,7 +14,7 @@ use Rattle.laws.proofs.Chain.{and-left, and-right, must-cases}
 use Rattle.sets.specs.declared.Set.{Set}
 use Rattle.sets.specs.declared.Asked.the-variants.{Known}
 use Rattle.sets.specs.Numbers.{dimension, keyLimitOf, onesOf, twosOf, askedOf}
-use Rattle.sets.proofs.Alike.{all, of-all, counts-fit}
+use Rattle.sets.proofs.Alike.{computed, of-all, counts-fit}
 use Rattle.answers.specs.declared.Outcome.{Outcome}
 use Rattle.answers.specs.declared.Outcome.the-variants.{UnknownSet, WrongLength, CoefficientOutside, MaskOutside, ImproperList}
 use Rattle.answers.specs.Outcomes.{numberOf, isDone, Filled, filled}
@@ -158,7 +158,7 @@ reaches s =
     let f = largestFirst s in
     eqb (length f) dimension && (every isSmall f && (hasCounts s f && eqb (squaresPair (pair f (second f))) (keyLimitOf s)))
 
-reached : every reaches all ≡ true
+reached : computed reaches ≡ true
 unfolding every counted squares second
 reached = refl
 

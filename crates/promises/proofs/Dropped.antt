@@ -19,7 +19,7 @@ use Rattle.laws.proofs.Congruence.{Cong, cong-sub, cong-sym, cong-trans, cong-m
 use Rattle.laws.proofs.Solver.{v, k, _⊕_, _⊖_, _⊗_, ring}
 use Rattle.sets.specs.declared.Set.{Set}
 use Rattle.sets.specs.Numbers.{twiceModulus, dOf, pOf}
-use Rattle.sets.proofs.Alike.{all, of-all, spread, step-small, p-even, kappa-within}
+use Rattle.sets.proofs.Alike.{computed, of-all, spread, step-small, p-even, kappa-within}
 use Rattle.answers.specs.declared.Outcome.{Outcome}
 use Rattle.answers.proofs.Calls.{zero-is}
 use Rattle.rounding.specs.Rounding.{quotient, upper, rest, centred, dagger}
@@ -199,8 +199,8 @@ module _ (s : Set) where
   reaches-down = costs s (2 ^ (dOf s - 1) - 1) up down
 
 -- computed, of every set
-reached : every (λ s. reaches-up s && reaches-down s) all ≡ true
-unfolding every dagger centred upper quotient residue
+reached : computed (λ s. reaches-up s && reaches-down s) ≡ true
+unfolding dagger centred upper quotient residue
 reached = refl
 
 pub figure-reached : FigureReached

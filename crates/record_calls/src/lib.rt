@@ -9,11 +9,13 @@ use sets::Set;
 
 // ---- what is lent
 
-// 1,700 times the same byte, more than any record has.
-pub fn bytes_of(b: u8) -> [u8; 1700]
-    ensures { λ r. ⌜ length r ≡ 1700 ⌝ }
+// More bytes than any record has.
+pub const ROOM: usize = 1800;
+
+pub fn bytes_of(b: u8) -> [u8; ROOM]
+    ensures { λ r. ⌜ length r ≡ 1800 ⌝ }
 {
-    [b; 1700]
+    [b; ROOM]
 }
 
 // 600 times the same number, more than any vector has.
@@ -29,10 +31,11 @@ pub fn narrow_of(x: i8) -> [i8; 600]
     [x; 600]
 }
 
-fn places_of(x: u16) -> [u16; 50]
-    ensures { λ r. ⌜ length r ≡ 50 ⌝ }
+// 120 times the same place, more than any list has.
+fn places_of(x: u16) -> [u16; 120]
+    ensures { λ r. ⌜ length r ≡ 120 ⌝ }
 {
-    [x; 50]
+    [x; 120]
 }
 
 // The first n places.
@@ -66,7 +69,7 @@ pub fn total_of(set: u32) -> usize {
 
 // ---- the calls
 
-// Writes to the front of 1,700 bytes of 165, of which `room` are lent; then reads as many of them as the set's total.
+// Writes to the front of 1,800 bytes of 165, of which `room` are lent; then reads as many of them as the set's total.
 pub fn writing(set: u32, z1: &[i16], z2: &[i8], list: &[u16], count: usize, room: usize) {
     let mut space = bytes_of(165);
     number(b"write: set ", set as u64);
@@ -82,7 +85,7 @@ fn checked(set: u32, space: &[u8]) {
     number(b"; output sums to ", sum(space));
     print(b"\n");
     let rec = front(space, total_of(set));
-    reading(rec, 512, 512, 39);
+    reading(rec, 512, 512, Set::LIST_LIMIT);
     sections(rec);
 }
 
@@ -207,19 +210,19 @@ fn sum(bytes: &[u8]) -> u64 {
 
 // Of the reader's three buffers together.
 fn buffer_sum(z1: &[i16], z2: &[i8], list: &[u16]) -> u64 {
-    let mut bytes = [0u8; 1900];
+    let mut bytes = [0u8; 2040];
     pack(z1, z2, list, &mut bytes);
     sum(&bytes)
 }
 
 fn pack(z1: &[i16], z2: &[i8], list: &[u16], out: &mut [u8]) {
-    if out.len() == 1900 {
+    if out.len() == 2040 {
         if z1.len() == 600 {
             if z2.len() == 600 {
-                if list.len() == 50 {
+                if list.len() == 120 {
                     byte_codes::pack_wide(z1, &mut out[0..1200]);
                     byte_codes::pack_narrow(z2, &mut out[1200..1800]);
-                    byte_codes::pack_places(list, &mut out[1800..1900]);
+                    byte_codes::pack_places(list, &mut out[1800..2040]);
                 }
             }
         }

@@ -2,9 +2,12 @@
 // wrong length. The crate record_calls makes the calls and prints a line for each.
 ghost use mathlib.Core.Path.{_≡_};
 ghost use lib.ListN.{length};
+ghost use Rattle.sets.specs.Numbers.{listLimit};
+use record_calls::ROOM;
 use record_forms::LIST_OFFSET;
 use record_forms::Z1_OFFSET;
 use record_forms::Z2_OFFSET;
+use sets::Set;
 
 fn main() {
     every_set();
@@ -17,24 +20,25 @@ fn main() {
 
 // ---- the cases
 
-// Sets 0 to 5, with lists as long as those of sets 1, 3 and 4: the record, and what it reads as.
+// Each set, 0 and 9 included, with its own list and with those of sets 1 and 8: the record, and what it reads as.
 fn every_set() {
-    record_calls::print(b"---- sets 0 to 5, lists of three lengths\n");
-    for_set(0);
-    for_set(1);
-    for_set(2);
-    for_set(3);
-    for_set(4);
-    for_set(5);
+    record_calls::print(b"---- sets 0 to 9, lists of three lengths\n");
+    each_set();
+}
+
+fn each_set() {
+    for set in 0..Set::LAST + 2 {
+        for_set(set);
+    }
 }
 
 fn for_set(set: u32) {
-    sample(set, 1, 1700);
-    sample(set, 3, 1700);
-    sample(set, 4, 1700);
+    sample(set, set, ROOM);
+    sample(set, 1, ROOM);
+    sample(set, 8, ROOM);
 }
 
-// A record of set 1 with one byte more by 1, for each byte of the header; then 0 and 3 for the set.
+// A record of set 1 with one byte more by 1, for each byte of the header; then 0, 3, 5 and 9 for the set.
 fn header_bytes() {
     record_calls::print(b"---- a record of set 1, one byte of its header more by a number\n");
     let mut rec = record_calls::bytes_of(0);
@@ -46,6 +50,8 @@ fn damage(rec: &mut [u8]) {
     each_byte(rec);
     more_by(rec, 4, 255);
     more_by(rec, 4, 2);
+    more_by(rec, 4, 4);
+    more_by(rec, 4, 8);
 }
 
 fn each_byte(rec: &mut [u8]) {
@@ -56,12 +62,16 @@ fn each_byte(rec: &mut [u8]) {
     }
 }
 
-// A record of sets 1, 3 and 4 in a longer slice, of which the first 0, 1, 2, .. bytes are lent: a line where the answer changes.
+// A record of each set in a longer slice, of which the first 0, 1, 2, .. bytes are lent: a line where the answer changes.
 fn every_length() {
     record_calls::print(b"---- the first bytes of a record: where the answer changes\n");
-    each_length(1);
-    each_length(3);
-    each_length(4);
+    each_length_of_each();
+}
+
+fn each_length_of_each() {
+    for set in 1..Set::LAST + 1 {
+        each_length(set);
+    }
 }
 
 // "largest" and one more, either way, and the sum.
@@ -112,24 +122,24 @@ fn rounded_of_sets() {
 }
 
 fn sums() {
-    alike(1, 568, 512, 512, 1, 1700);
-    alike(1, 569, 512, 512, 1, 1700);
-    alike(4, 437, 512, 512, 4, 1700);
-    alike(4, 438, 512, 512, 4, 1700);
+    alike(1, 568, 512, 512, 1, ROOM);
+    alike(1, 569, 512, 512, 1, ROOM);
+    alike(4, 437, 512, 512, 4, ROOM);
+    alike(4, 438, 512, 512, 4, ROOM);
 }
 
 // One place of the list of set 1 changed: at the bounds, repeated, falling, too large.
 fn lists() {
     record_calls::print(b"---- one place of the list of set 1 changed\n");
     one_place(0, 0);
-    one_place(0, 16);
+    one_place(0, 7);
     one_place(1, 3);
     one_place(1, 2);
     one_place(1, 4);
     one_place(22, 511);
     one_place(22, 512);
     one_place(22, 65535);
-    one_place(21, 289);
+    one_place(21, 91);
 }
 
 // Vectors and outputs one entry short or long, and refusals whose conditions hold together.
@@ -145,10 +155,10 @@ fn buffers() {
 }
 
 fn vectors_short_or_long() {
-    alike(1, 7, 511, 512, 1, 1700);
-    alike(1, 7, 513, 512, 1, 1700);
-    alike(1, 7, 512, 511, 1, 1700);
-    alike(1, 7, 512, 513, 1, 1700);
+    alike(1, 7, 511, 512, 1, ROOM);
+    alike(1, 7, 513, 512, 1, ROOM);
+    alike(1, 7, 512, 511, 1, ROOM);
+    alike(1, 7, 512, 513, 1, ROOM);
 }
 
 fn outputs() {
@@ -157,11 +167,13 @@ fn outputs() {
     sample(1, 1, 1606);
     sample(4, 4, 1637);
     sample(4, 4, 1638);
+    sample(8, 8, 1785);
+    sample(8, 8, 1786);
 }
 
 // 1 before 2, 2 before 5, 5 before 10, 10 before 14: a list of set 3 is no list of set 1.
 fn first_refusals() {
-    alike(5, 7, 511, 512, 3, 0);
+    alike(9, 7, 511, 512, 3, 0);
     alike(1, 7, 511, 512, 3, 0);
     alike(1, 2101, 512, 512, 3, 0);
     alike(1, 2101, 512, 512, 1, 0);
@@ -169,63 +181,28 @@ fn first_refusals() {
 
 // Each of the reader's buffers short and long, with a good record; and 2 before 13.
 fn reader_buffers() {
-    with_buffers(1606, 511, 512, 39);
-    with_buffers(1606, 513, 512, 39);
-    with_buffers(1606, 512, 511, 39);
-    with_buffers(1606, 512, 513, 39);
-    with_buffers(1606, 512, 512, 38);
-    with_buffers(1606, 512, 512, 40);
-    with_buffers(23, 512, 512, 38);
-    with_buffers(23, 512, 512, 39);
+    with_buffers(1606, 511, 512, Set::LIST_LIMIT);
+    with_buffers(1606, 513, 512, Set::LIST_LIMIT);
+    with_buffers(1606, 512, 511, Set::LIST_LIMIT);
+    with_buffers(1606, 512, 513, Set::LIST_LIMIT);
+    with_buffers(1606, 512, 512, 112);
+    with_buffers(1606, 512, 512, 114);
+    with_buffers(1606, 512, 512, 39);
+    with_buffers(23, 512, 512, 112);
+    with_buffers(23, 512, 512, Set::LIST_LIMIT);
 }
 
 // ---- one case
 
-// Places 13 apart, for the longest list.
-fn places() -> [u16; 39]
-    ensures { λ r. ⌜ length r ≡ 39 ⌝ }
+// Places 4 apart, for the longest list.
+fn places() -> [u16; Set::LIST_LIMIT]
+    ensures { λ r. ⌜ length r ≡ listLimit ⌝ }
 {
-    [
-        3,
-        16,
-        29,
-        42,
-        55,
-        68,
-        81,
-        94,
-        107,
-        120,
-        133,
-        146,
-        159,
-        172,
-        185,
-        198,
-        211,
-        224,
-        237,
-        250,
-        263,
-        276,
-        289,
-        302,
-        315,
-        328,
-        341,
-        354,
-        367,
-        380,
-        393,
-        406,
-        419,
-        432,
-        445,
-        458,
-        471,
-        484,
-        497,
-    ]
+    let mut list = [0u16; Set::LIST_LIMIT];
+    for i in 0..Set::LIST_LIMIT {
+        list[i] = 3 + 4 * (i as u16);
+    }
+    list
 }
 
 fn first_vector() -> [i16; 512]
@@ -311,7 +288,7 @@ fn more_by(rec: &mut [u8], at: usize, by: u8) {
         record_calls::print(b"\n");
         let old = rec[at];
         rec[at] = std::num::wrapping_add_u8(old, by);
-        record_calls::reading(rec, 512, 512, 39);
+        record_calls::reading(rec, 512, 512, Set::LIST_LIMIT);
         record_calls::sections(rec);
         rec[at] = old;
     }
@@ -332,7 +309,7 @@ fn one_entry(set: u32, at: usize, value: i16) {
             &record_calls::narrow_of(0),
             512,
             record_calls::kappa_of(set),
-            1700,
+            ROOM,
         );
         raw(set, Z1_OFFSET + 2 * at, byte_codes::bits16(value));
     }
@@ -352,7 +329,7 @@ fn one_rounded(set: u32, at: usize, value: i8) {
             &z2,
             512,
             record_calls::kappa_of(set),
-            1700,
+            ROOM,
         );
         raw(set, Z2_OFFSET + at, byte_codes::bits8(value) as u16);
     }
@@ -360,7 +337,7 @@ fn one_rounded(set: u32, at: usize, value: i8) {
 
 fn one_place(at: usize, place: u16) {
     let mut list = places();
-    if at < 39 {
+    if at < Set::LIST_LIMIT {
         record_calls::number(b"list entry ", at as u64);
         record_calls::number(b" is ", place as u64);
         record_calls::print(b"\n");
@@ -371,7 +348,7 @@ fn one_place(at: usize, place: u16) {
             &second_vector(),
             &list,
             record_calls::kappa_of(1),
-            1700,
+            ROOM,
         );
         raw(1, LIST_OFFSET + 2 * at, place);
     }
@@ -386,12 +363,12 @@ fn raw(set: u32, at: usize, x: u16) {
         record_calls::front(&rec, record_calls::total_of(set)),
         512,
         512,
-        39,
+        Set::LIST_LIMIT,
     );
 }
 
 fn change(rec: &mut [u8], at: usize, x: u16) {
-    if at < 1699 {
+    if at < ROOM - 1 {
         if at + 1 < rec.len() {
             byte_codes::put_number(rec, at, x);
         }
@@ -407,7 +384,7 @@ fn each_length(set: u32) {
 fn from_nothing(rec: &[u8]) {
     let mut last = 0;
     let mut n = 0;
-    while n <= 1700 {
+    while n <= ROOM {
         last = at_length(rec, n, last);
         n += 1;
     }
@@ -424,7 +401,7 @@ fn at_length(rec: &[u8], n: usize, last: u64) -> u64 {
         record_calls::number(b"first bytes: ", n as u64);
         record_calls::part(b"; list section", bytes, k, place);
         record_calls::print(b"\n");
-        record_calls::reading(lent, 512, 512, 39);
+        record_calls::reading(lent, 512, 512, Set::LIST_LIMIT);
     }
     now
 }

@@ -33,7 +33,7 @@ pub fn replay(fd: i32) {
     tally::print(&counts);
 }
 
-// The number of entries; 0 where the letters are not BLVECT02.
+// The number of entries; 0 where the letters are not BLVECT03.
 fn stated(fd: i32) -> u32 {
     let mut bytes = [0u8; 16];
     let got = io::read_full(fd, &mut bytes);
@@ -51,7 +51,7 @@ fn stated(fd: i32) -> u32 {
 fn opens(bytes: &[u8]) -> bool
     requires { ⌜ length (now bytes) ≡ 16 ⌝ }
 {
-    let letters = b"BLVECT02";
+    let letters = b"BLVECT03";
     let mut i = 0;
     while i < 8 {
         if bytes[i] != letters[i] {

@@ -1,106 +1,112 @@
 -- What holds of every set alike: the few laws of d, p, kappa and K that everything else is proved from.
-use mathlib.Core.Path.{_≡_, refl, ap, _∙_}
-use mathlib.Core.Bool.{Bool, true, cond}
-use mathlib.Core.List.{List, [], _∷_}
-use Prim.Native.Nat.{ℕ, _+_, _*_, _-_, _/_, _^_, _<_, _≤_}
+use mathlib.Core.Path.{_≡_, refl, ap, subst, _∙_}
+use mathlib.Core.Bool.{Bool, true, cond, _&&_}
+use mathlib.Core.List.{List, [], _∷_, foldr}
+use Prim.Native.Nat.{ℕ, _+_, _*_, _/_, _^_, _<_, _≤_}
 use native.Mathlib.Omega.{arith}
-use lib.Dec.{eqb, eqb→eq, lit<, lit≤}
-use borrow.Author.Tests.{ne-eqb}
-use Rattle.laws.specs.Lists.{every}
+use lib.Dec.{eqb, leb, ltb, eqb→eq}
+use borrow.Author.Tests.{eqb-true, leb-true, ltb-true, ne-eqb}
 use Rattle.laws.proofs.Bounds.{cond-ind}
 use Rattle.laws.proofs.Chain.{and-left, and-right}
 use Rattle.sets.specs.declared.Set.{Set}
-use Rattle.sets.specs.declared.Set.the-variants.{I, II, III, IV}
+use Rattle.sets.specs.declared.Set.the-variants.{I, II, III, IV, «V», VI, VII, VIII}
 use Rattle.sets.specs.declared.Asked.{Asked}
 use Rattle.sets.specs.declared.Asked.the-variants.{Known, Unknown}
-use Rattle.sets.specs.Numbers.{dimension, twiceModulus, maskLimit, listLimit, listOffset, recordLimit, Largest, kappaOf, dOf, pOf, largestOf, boundOf, boundSquaredOf, keyLimitOf, onesOf, twosOf, coefficientLimitOf, totalOf, setNumberOf, namedOf, askedOf, defaultOne}
+use Rattle.sets.specs.Numbers.{dimension, twiceModulus, maskLimit, listLimit, listOffset, recordLimit, all, Largest, kappaOf, dOf, pOf, largestOf, boundOf, boundSquaredOf, keyLimitOf, onesOf, twosOf, coefficientLimitOf, totalOf, setNumberOf, lastNumber, numbered, namedOf, askedOf, defaultOne}
 
--- a statement about a set, from its four cases
-each : (P : Set → Type 0) → P I → P II → P III → P IV → (s : Set) → P s
-each P a b c d I = a
-each P a b c d II = b
-each P a b c d III = c
-each P a b c d IV = d
+-- ---- all sets
 
--- all sets
-abbrev pub all : List Set
-all = I ∷ II ∷ III ∷ IV ∷ []
+-- a set's number stands for the set: so each is among all of them, and nothing else goes by cases
+pub named-back : (s : Set) → namedOf (setNumberOf s) ≡ Known s
+unfolding namedOf numbered
+named-back s = elim s [ I ↦ refl | II ↦ refl | III ↦ refl | IV ↦ refl | «V» ↦ refl | VI ↦ refl | VII ↦ refl | VIII ↦ refl ]
 
--- a test that the checker computes of all of them holds of each
-pub of-all : (test : Set → Bool) → every test all ≡ true → (s : Set) → test s ≡ true
-unfolding every
-of-all test e =
-    let one = and-right (test I) _ e in
-    let two = and-right (test II) _ one in
-    let three = and-right (test III) _ two in
-    each _ (and-left (test I) _ e) (and-left (test II) _ one) (and-left (test III) _ two) (and-left (test IV) _ three)
+-- whether a test holds of all of some sets
+abbrev throughout : List Set → (Set → Bool) → Bool
+throughout sets test = foldr (λ s. _&&_ (test s)) true sets
+
+-- the set among some that has a number: the number is its own, and what holds of all of them holds of it
+found : (s : Set) (n : ℕ) (test : Set → Bool) (sets : List Set) → numbered n sets ≡ Known s → (n ≡ setNumberOf s) × (throughout sets test ≡ true → test s ≡ true)
+unfolding numbered
+found s n test [] e = let z : _≡_ {A = ℕ} 0 1 = cc in absurd (omega (arith, z))
+found s n test (s′ ∷ rest) e =
+    cond-ind (eqb n (setNumberOf s′)) (Known s′) (numbered n rest) (λ a. a ≡ Known s → (n ≡ setNumberOf s) × (throughout (s′ ∷ rest) test ≡ true → test s ≡ true))
+    (λ t k. let same : s′ ≡ s = cc in (eqb→eq n (setNumberOf s′) t ∙ ap setNumberOf same, λ h. subst (λ x. test x ≡ true) same (and-left (test s′) _ h)))
+    (λ t k. let later = found s n test rest k in (later .0, λ h. later .1 (and-right (test s′) _ h)))
+    e
+
+pub named-is : (s : Set) (n : ℕ) → namedOf n ≡ Known s → n ≡ setNumberOf s
+unfolding namedOf
+named-is s n e = found s n (λ _. true) all e .0
+
+-- a test that the checker computes of all sets holds of each
+abbrev pub computed : (Set → Bool) → Bool
+computed = throughout all
+
+pub of-all : (test : Set → Bool) → computed test ≡ true → (s : Set) → test s ≡ true
+unfolding namedOf
+of-all test e s = found s (setNumberOf s) test all (named-back s) .1 e
+
+module _ (m n : Set → ℕ) where
+  equal : computed (λ s. eqb (m s) (n s)) ≡ true → (s : Set) → m s ≡ n s
+  equal e s = eqb-true (m s) (n s) (of-all (λ t. eqb (m t) (n t)) e s)
+
+  at-most : computed (λ s. leb (m s) (n s)) ≡ true → (s : Set) → m s ≤ n s
+  at-most e s = leb-true (m s) (n s) (of-all (λ t. leb (m t) (n t)) e s)
+
+  below : computed (λ s. ltb (m s) (n s)) ≡ true → (s : Set) → m s < n s
+  below e s = ltb-true (m s) (n s) (of-all (λ t. ltb (m t) (n t)) e s)
+
+-- ---- the numbers of each
 
 pub p-is-quotient : (s : Set) → pOf s ≡ twiceModulus / 2 ^ dOf s
-p-is-quotient = each _ refl refl refl refl
+p-is-quotient = equal _ _ refl
 
 -- p 2^d is 2q - 2, and not 2q
 pub spread : (s : Set) → pOf s * 2 ^ dOf s + 2 ≡ twiceModulus
-spread = each _ refl refl refl refl
+spread = equal _ _ refl
 
 pub step-small : (s : Set) → 2 ^ dOf s ≤ 1024
-step-small = each _ (lit≤ tt) (lit≤ tt) (lit≤ tt) (lit≤ tt)
+step-small = at-most _ _ refl
 
 pub step-at-least-256 : (s : Set) → 256 ≤ 2 ^ dOf s
-step-at-least-256 = each _ (lit≤ tt) (lit≤ tt) (lit≤ tt) (lit≤ tt)
+step-at-least-256 = at-most _ _ refl
 
 -- the square of a step, as the length rule's sum has it
 pub step-squared : (s : Set) → 2 ^ dOf s * 2 ^ dOf s ≡ 4 ^ dOf s
-step-squared = each _ refl refl refl refl
+step-squared = equal _ _ refl
 
 pub p-even : (s : Set) → pOf s ≡ pOf s / 2 + pOf s / 2
-p-even = each _ refl refl refl refl
+p-even = equal _ _ refl
 
 pub p-positive : (s : Set) → 0 < pOf s
-p-positive = each _ (lit< tt) (lit< tt) (lit< tt) (lit< tt)
+p-positive = below _ _ refl
 
 -- a number modulo p, and a centred one, fit a byte
 pub p-small : (s : Set) → pOf s ≤ 96
-p-small = each _ (lit≤ tt) (lit≤ tt) (lit≤ tt) (lit≤ tt)
+p-small = at-most _ _ refl
 
 pub d-at-least-8 : (s : Set) → 8 ≤ dOf s
-d-at-least-8 = each _ (lit≤ tt) (lit≤ tt) (lit≤ tt) (lit≤ tt)
+d-at-least-8 = at-most _ _ refl
 
 pub d-small : (s : Set) → dOf s ≤ 10
-d-small = each _ (lit≤ tt) (lit≤ tt) (lit≤ tt) (lit≤ tt)
-
-pub kappa-within : (s : Set) → kappaOf s ≤ listLimit
-kappa-within = each _ (lit≤ tt) (lit≤ tt) (lit≤ tt) (lit≤ tt)
-
-pub list-limit : Largest kappaOf listLimit
-list-limit = (kappa-within, (IV, refl))
+d-small = at-most _ _ refl
 
 pub largest-small : (s : Set) → largestOf s < 2 ^ 15
-largest-small = each _ (lit< tt) (lit< tt) (lit< tt) (lit< tt)
+largest-small = below _ _ refl
 
 -- so that a z2 dagger that the length rule passes is below p
 pub largest-below-spread : (s : Set) → largestOf s < pOf s * 2 ^ dOf s
-largest-below-spread = each _ (lit< tt) (lit< tt) (lit< tt) (lit< tt)
+largest-below-spread = below _ _ refl
 
 pub bound-squared : (s : Set) → boundSquaredOf s ≡ boundOf s * boundOf s
-bound-squared = each _ refl refl refl refl
+bound-squared = equal _ _ refl
 
-pub key-limit-small : (s : Set) → keyLimitOf s ≤ 1784
-key-limit-small = each _ (lit≤ tt) (lit≤ tt) (lit≤ tt) (lit≤ tt)
+pub kappa-within : (s : Set) → kappaOf s ≤ listLimit
+kappa-within = at-most _ _ refl
 
--- K is what the counts come to at most: d1 + 4 d2 for f, four times that for 2g, and what the 1 at place 0 adds to the largest coefficient there
-pub key-limit-is : (s : Set) → keyLimitOf s ≡ 5 * (onesOf s + 4 * twosOf s) + (4 * coefficientLimitOf s + 1)
-key-limit-is = each _ refl refl refl refl
-
-pub counts-fit : (s : Set) → onesOf s + twosOf s ≤ dimension
-counts-fit = each _ (lit≤ tt) (lit≤ tt) (lit≤ tt) (lit≤ tt)
-
--- the first trial's number has no place above 30
-pub first-trial : (s : Set) → kappaOf s * keyLimitOf s < 2 ^ 31
-first-trial = each _ (lit< tt) (lit< tt) (lit< tt) (lit< tt)
-
--- nor has the second's: a coefficient of z is at most a mask's and kappa columns' of at most 5, and the absolute values of v sum to at most kappa K
-pub second-trial : (s : Set) → 2 * ((maskLimit + 5 * kappaOf s) * (kappaOf s * keyLimitOf s)) < 2 ^ 31
-second-trial = each _ (lit< tt) (lit< tt) (lit< tt) (lit< tt)
+pub list-limit : Largest kappaOf listLimit
+list-limit = (kappa-within, (VIII, refl))
 
 pub total-within : (s : Set) → totalOf s ≤ recordLimit
 total-within s = omega (arith, kappa-within s)
@@ -111,36 +117,38 @@ record-limit = (total-within, (list-limit .1 .0, ap (λ (n : ℕ). listOffset + 
 pub total-small : (s : Set) → totalOf s < 2 ^ 16
 total-small s = omega (arith, total-within s)
 
--- a set's number stands for the set, in a record and on a call
-pub named-back : (s : Set) → namedOf (setNumberOf s) ≡ Known s
-unfolding namedOf
-named-back = each _ refl refl refl refl
+-- K is what the counts come to at most: d1 + 4 d2 for f, four times that for 2g, and what the 1 at place 0 adds to the largest coefficient there
+pub key-limit-is : (s : Set) → keyLimitOf s ≡ 5 * (onesOf s + 4 * twosOf s) + (4 * coefficientLimitOf s + 1)
+key-limit-is = equal _ _ refl
 
--- and no other number does
-named-step : (s s′ : Set) (n : ℕ) (rest : Asked) → (rest ≡ Known s → n ≡ setNumberOf s) → cond (eqb n (setNumberOf s′)) (Known s′) rest ≡ Known s → n ≡ setNumberOf s
-named-step s s′ n rest later =
-    cond-ind (eqb n (setNumberOf s′)) (Known s′) rest (λ a. a ≡ Known s → n ≡ setNumberOf s)
-    (λ t e. let same : s′ ≡ s = cc in eqb→eq n (setNumberOf s′) t ∙ ap setNumberOf same)
-    (λ t. later)
+pub counts-fit : (s : Set) → onesOf s + twosOf s ≤ dimension
+counts-fit = at-most _ _ refl
 
-pub named-is : (s : Set) (n : ℕ) → namedOf n ≡ Known s → n ≡ setNumberOf s
-unfolding namedOf
-named-is s n =
-    named-step s I n _
-    (named-step s II n _
-    (named-step s III n _
-    (named-step s IV n Unknown
-    (λ e. let z : _≡_ {A = ℕ} 0 1 = cc in absurd (none z)))))
-  where
-    none : _≡_ {A = ℕ} 0 1 → ⊥
-    none z = omega arith
+-- the first trial's number has no place above 30
+pub first-trial : (s : Set) → kappaOf s * keyLimitOf s < 2 ^ 31
+first-trial = below _ _ refl
+
+-- nor has the second's: a coefficient of z is at most a mask's and kappa columns' of at most 5, and the absolute values of v sum to at most kappa K
+pub second-trial : (s : Set) → 2 * ((maskLimit + 5 * kappaOf s) * (kappaOf s * keyLimitOf s)) < 2 ^ 31
+second-trial = below _ _ refl
+
+-- ---- numbers for sets
 
 pub number-small : (s : Set) → setNumberOf s < 256
-number-small = each _ (lit< tt) (lit< tt) (lit< tt) (lit< tt)
+number-small = below _ _ refl
+
+pub number-within : (s : Set) → setNumberOf s ≤ lastNumber
+number-within = at-most _ _ refl
+
+number-positive : (s : Set) → 0 < setNumberOf s
+number-positive = below _ _ refl
+
+pub asked-named : (n : ℕ) → (n ≡ 0 → ⊥) → askedOf n ≡ namedOf n
+unfolding askedOf
+asked-named n h = rw (ne-eqb n 0 h)
 
 pub asked-back : (s : Set) → askedOf (setNumberOf s) ≡ Known s
-unfolding askedOf namedOf
-asked-back = each _ refl refl refl refl
+asked-back s = asked-named (setNumberOf s) (λ e. omega (arith, number-positive s, e)) ∙ named-back s
 
 -- 0 asks for set 4
 pub asked-zero : askedOf 0 ≡ Known IV

@@ -1,10 +1,13 @@
--- The numbers of the sets, as the table of 01, "Parameters", has them.
+-- The numbers of the sets: the table of 01, "Parameters", and the longer challenges of 02, C-22.
 use mathlib.Core.Path.{_≡_}
 use mathlib.Core.Bool.{cond}
+use mathlib.Core.List.{List, [], _∷_}
 use Prim.Native.Nat.{ℕ, _+_, _*_, _≤_}
 use lib.Dec.{eqb}
 use Rattle.sets.specs.declared.Set.{Set}
-use Rattle.sets.specs.declared.Set.the-variants.{I, II, III, IV}
+use Rattle.sets.specs.declared.Set.the-variants.{I, II, III, IV, «V», VI, VII, VIII}
+use Rattle.sets.specs.declared.Row.{Row}
+use Rattle.sets.specs.declared.Row.the-variants.{First, Second, Third, Fourth}
 use Rattle.sets.specs.declared.Asked.{Asked}
 use Rattle.sets.specs.declared.Asked.the-variants.{Known, Unknown}
 
@@ -36,7 +39,7 @@ places = 31
 
 -- the entries of a reader's list buffer: the largest kappa
 abbrev pub listLimit : ℕ
-listLimit = 39
+listLimit = 113
 
 -- ---- the form of a record (01, "The record")
 
@@ -62,68 +65,70 @@ recordLimit = listOffset + 2 * listLimit
 
 -- ---- of each set
 
--- kappa: the places of a challenge list
+-- all sets
+abbrev pub all : List Set
+all = I ∷ II ∷ III ∷ IV ∷ «V» ∷ VI ∷ VII ∷ VIII ∷ []
+
+-- kappa: the places of a challenge list (sets 5 to 8: 02, C-22)
 abbrev pub kappaOf : Set → ℕ
 kappaOf I = 23
 kappaOf II = 23
 kappaOf III = 30
 kappaOf IV = 39
+kappaOf «V» = 58
+kappaOf VI = 58
+kappaOf VII = 82
+kappaOf VIII = 113
+
+-- the row of 01's table that a set has its other numbers from: "otherwise the numbers of sets 1 to 4" (02, C-22)
+abbrev pub likeOf : Set → Row
+likeOf I = First
+likeOf II = Second
+likeOf III = Third
+likeOf IV = Fourth
+likeOf «V» = First
+likeOf VI = Second
+likeOf VII = Third
+likeOf VIII = Fourth
+
+-- a column of the table: its number in each row
+abbrev pub column : ℕ → ℕ → ℕ → ℕ → Row → ℕ
+column a b c d First = a
+column a b c d Second = b
+column a b c d Third = c
+column a b c d Fourth = d
 
 -- d: the dropped binary digits
 abbrev pub dOf : Set → ℕ
-dOf I = 10
-dOf II = 10
-dOf III = 9
-dOf IV = 8
+dOf s = column 10 10 9 8 (likeOf s)
 
 -- p: 2q divided by 2^d, rounded down
 abbrev pub pOf : Set → ℕ
-pOf I = 24
-pOf II = 24
-pOf III = 48
-pOf IV = 96
+pOf s = column 24 24 48 96 (likeOf s)
 
 -- "largest"
 abbrev pub largestOf : Set → ℕ
-largestOf I = 2100
-largestOf II = 1563
-largestOf III = 1760
-largestOf IV = 1613
+largestOf s = column 2100 1563 1760 1613 (likeOf s)
 
 -- B2
 abbrev pub boundOf : Set → ℕ
-boundOf I = 12872
-boundOf II = 11074
-boundOf III = 10206
-boundOf IV = 9901
+boundOf s = column 12872 11074 10206 9901 (likeOf s)
 
 -- B2 squared
 abbrev pub boundSquaredOf : Set → ℕ
-boundSquaredOf I = 165688384
-boundSquaredOf II = 122633476
-boundSquaredOf III = 104162436
-boundSquaredOf IV = 98029801
+boundSquaredOf s = column 165688384 122633476 104162436 98029801 (likeOf s)
 
 -- K: the largest squared length of a key
 abbrev pub keyLimitOf : Set → ℕ
-keyLimitOf I = 775
-keyLimitOf II = 775
-keyLimitOf III = 1409
-keyLimitOf IV = 1784
+keyLimitOf s = column 775 775 1409 1784 (likeOf s)
 
 -- d1: how many coefficients of f are 1 or -1, and how many of g (02, C-12)
 abbrev pub onesOf : Set → ℕ
-onesOf I = 154
-onesOf II = 154
-onesOf III = 216
-onesOf IV = 231
+onesOf s = column 154 154 216 231 (likeOf s)
 
 -- d2: how many are 2 or -2; the rest is zero
 abbrev pub twosOf : Set → ℕ
-twosOf I = 0
-twosOf II = 0
-twosOf III = 16
-twosOf IV = 31
+twosOf s = column 0 0 16 31 (likeOf s)
 
 -- the largest coefficient that these counts leave to f and to g
 abbrev pub coefficientLimitOf : Set → ℕ
@@ -145,15 +150,23 @@ setNumberOf I = 1
 setNumberOf II = 2
 setNumberOf III = 3
 setNumberOf IV = 4
+setNumberOf «V» = 5
+setNumberOf VI = 6
+setNumberOf VII = 7
+setNumberOf VIII = 8
+
+-- the largest number of a set: any above it is refused with 1
+abbrev pub lastNumber : ℕ
+lastNumber = 8
+
+-- the set among some that has that number
+unfoldable pub numbered : ℕ → List Set → Asked
+numbered x [] = Unknown
+numbered x (s ∷ rest) = cond (eqb x (setNumberOf s)) (Known s) (numbered x rest)
 
 -- the set of that number
 unfoldable pub namedOf : ℕ → Asked
-namedOf x =
-    cond (eqb x 1) (Known I)
-    (cond (eqb x 2) (Known II)
-    (cond (eqb x 3) (Known III)
-    (cond (eqb x 4) (Known IV)
-    Unknown)))
+namedOf x = numbered x all
 
 -- the set that a number stands for on a call: 0 stands for set 4 (02, C-17)
 unfoldable pub askedOf : ℕ → Asked

@@ -1,7 +1,7 @@
 // The parameter sets: the numbers of a set are asked of the set and stand nowhere else (01, "Parameters").
 ghost use mathlib.Core.Path.{_≡_};
 ghost use Prim.Native.Nat.{_^_};
-ghost use Rattle.sets.specs.Numbers.{kappaOf, dOf, pOf, largestOf, boundSquaredOf, keyLimitOf, onesOf, twosOf, totalOf, setNumberOf, namedOf, askedOf, defaultOne};
+ghost use Rattle.sets.specs.Numbers.{kappaOf, likeOf, dOf, pOf, largestOf, boundSquaredOf, keyLimitOf, onesOf, twosOf, totalOf, setNumberOf, namedOf, askedOf, defaultOne};
 
 // The bytes of a record's header, and where z1, z2 dagger and the list start (01, "The record").
 pub const HEADER_LENGTH: usize = 24;
@@ -17,6 +17,18 @@ pub enum Set {
     II,
     III,
     IV,
+    V,
+    VI,
+    VII,
+    VIII,
+}
+
+// The rows of the table of 01, which sets I to IV are: the other sets are each like one of them (02, C-22).
+pub enum Row {
+    First,
+    Second,
+    Third,
+    Fourth,
 }
 
 // The set that a number stands for, where there is one.
@@ -44,8 +56,11 @@ impl Set {
     // The binary places that a trial visits, and the thresholds.
     pub const PLACES: usize = 31;
 
+    // The largest number of a set: they run from 1 to it.
+    pub const LAST: u32 = 8;
+
     // The entries of a reader's list buffer: as many as any set's list has.
-    pub const LIST_LIMIT: usize = 39;
+    pub const LIST_LIMIT: usize = 113;
 
     // The bytes of the longest record of any set.
     pub const RECORD_LIMIT: usize = LIST_OFFSET + 2 * Set::LIST_LIMIT;
@@ -58,17 +73,37 @@ impl Set {
             Set::II => 23,
             Set::III => 30,
             Set::IV => 39,
+            Set::V => 58,
+            Set::VI => 58,
+            Set::VII => 82,
+            Set::VIII => 113,
+        }
+    }
+
+    // The row that the set has its other numbers from.
+    pub fn like(self) -> Row
+        ensures { λ r. ⌜ r ≡ likeOf self ⌝ }
+    {
+        match self {
+            Set::I => Row::First,
+            Set::II => Row::Second,
+            Set::III => Row::Third,
+            Set::IV => Row::Fourth,
+            Set::V => Row::First,
+            Set::VI => Row::Second,
+            Set::VII => Row::Third,
+            Set::VIII => Row::Fourth,
         }
     }
 
     pub fn d(self) -> u32
         ensures { λ r. ⌜ r ≡ dOf self ⌝ }
     {
-        match self {
-            Set::I => 10,
-            Set::II => 10,
-            Set::III => 9,
-            Set::IV => 8,
+        match self.like() {
+            Row::First => 10,
+            Row::Second => 10,
+            Row::Third => 9,
+            Row::Fourth => 8,
         }
     }
 
@@ -82,44 +117,44 @@ impl Set {
     pub fn p(self) -> u32
         ensures { λ r. ⌜ r ≡ pOf self ⌝ }
     {
-        match self {
-            Set::I => 24,
-            Set::II => 24,
-            Set::III => 48,
-            Set::IV => 96,
+        match self.like() {
+            Row::First => 24,
+            Row::Second => 24,
+            Row::Third => 48,
+            Row::Fourth => 96,
         }
     }
 
     pub fn largest(self) -> u32
         ensures { λ r. ⌜ r ≡ largestOf self ⌝ }
     {
-        match self {
-            Set::I => 2100,
-            Set::II => 1563,
-            Set::III => 1760,
-            Set::IV => 1613,
+        match self.like() {
+            Row::First => 2100,
+            Row::Second => 1563,
+            Row::Third => 1760,
+            Row::Fourth => 1613,
         }
     }
 
     pub fn bound_squared(self) -> u64
         ensures { λ r. ⌜ r ≡ boundSquaredOf self ⌝ }
     {
-        match self {
-            Set::I => 165688384,
-            Set::II => 122633476,
-            Set::III => 104162436,
-            Set::IV => 98029801,
+        match self.like() {
+            Row::First => 165688384,
+            Row::Second => 122633476,
+            Row::Third => 104162436,
+            Row::Fourth => 98029801,
         }
     }
 
     pub fn key_limit(self) -> u64
         ensures { λ r. ⌜ r ≡ keyLimitOf self ⌝ }
     {
-        match self {
-            Set::I => 775,
-            Set::II => 775,
-            Set::III => 1409,
-            Set::IV => 1784,
+        match self.like() {
+            Row::First => 775,
+            Row::Second => 775,
+            Row::Third => 1409,
+            Row::Fourth => 1784,
         }
     }
 
@@ -127,11 +162,11 @@ impl Set {
     pub fn ones(self) -> u16
         ensures { λ r. ⌜ r ≡ onesOf self ⌝ }
     {
-        match self {
-            Set::I => 154,
-            Set::II => 154,
-            Set::III => 216,
-            Set::IV => 231,
+        match self.like() {
+            Row::First => 154,
+            Row::Second => 154,
+            Row::Third => 216,
+            Row::Fourth => 231,
         }
     }
 
@@ -139,11 +174,11 @@ impl Set {
     pub fn twos(self) -> u16
         ensures { λ r. ⌜ r ≡ twosOf self ⌝ }
     {
-        match self {
-            Set::I => 0,
-            Set::II => 0,
-            Set::III => 16,
-            Set::IV => 31,
+        match self.like() {
+            Row::First => 0,
+            Row::Second => 0,
+            Row::Third => 16,
+            Row::Fourth => 31,
         }
     }
 
@@ -163,6 +198,10 @@ impl Set {
             Set::II => 2,
             Set::III => 3,
             Set::IV => 4,
+            Set::V => 5,
+            Set::VI => 6,
+            Set::VII => 7,
+            Set::VIII => 8,
         }
     }
 
@@ -175,6 +214,10 @@ impl Set {
             2 => Asked::Known(Set::II),
             3 => Asked::Known(Set::III),
             4 => Asked::Known(Set::IV),
+            5 => Asked::Known(Set::V),
+            6 => Asked::Known(Set::VI),
+            7 => Asked::Known(Set::VII),
+            8 => Asked::Known(Set::VIII),
             _ => Asked::Unknown,
         }
     }

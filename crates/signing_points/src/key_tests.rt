@@ -9,13 +9,10 @@ use test_keys::Shape;
 pub fn run() {
     thin();
     show::heading(b"key test, so many coefficients of 1 or -1 and of 2 or -2, a = (2g + 1) / f");
-    edges(1, Set::I);
-    edges(2, Set::II);
-    edges(3, Set::III);
-    edges(4, Set::IV);
-    other_sets(Set::I);
-    other_sets(Set::III);
-    other_sets(Set::IV);
+    each_set();
+    other_sets(1);
+    other_sets(3);
+    other_sets(4);
     ranges();
     faults();
     lengths();
@@ -27,16 +24,20 @@ fn thin() {
     show::heading(b"key test, f = 1, g = 0, a = 1");
     sized(b"set 1", 1, 512, 512, 512, 1);
     sized(b"set 0, which stands for 4", 0, 512, 512, 512, 1);
-    sized(b"set 2", 2, 512, 512, 512, 1);
-    sized(b"set 3", 3, 512, 512, 512, 1);
-    sized(b"set 4", 4, 512, 512, 512, 1);
-    sized(b"set 5", 5, 512, 512, 512, 1);
+    sized(b"set 8", 8, 512, 512, 512, 1);
+    sized(b"set 9", 9, 512, 512, 512, 1);
     sized(b"set 4294967295", 4294967295, 512, 512, 512, 1);
 }
 
+fn each_set() {
+    for set in 1..Set::LAST + 1 {
+        edges(set);
+    }
+}
+
 // The set's counts, and others in f alone and in g alone.
-fn edges(set: u32, s: Set) {
-    let c = test_keys::shape_of(s, false);
+fn edges(set: u32) {
+    let c = test_keys::shape_of(set, false);
     made(b"right", set, c, c);
     alone(b"a 1 more", set, c, more(c.ones, 1), c.twos);
     alone(b"a 1 fewer", set, c, less(c.ones, 1), c.twos);
@@ -69,15 +70,19 @@ fn fewer_twos(set: u32, c: Shape) {
     );
 }
 
-// A key of one set on each, 0 and 5 included.
-fn other_sets(s: Set) {
-    let c = test_keys::shape_of(s, false);
-    made(b"on each set", 0, c, c);
-    made(b"on each set", 1, c, c);
-    made(b"on each set", 2, c, c);
-    made(b"on each set", 3, c, c);
-    made(b"on each set", 4, c, c);
-    made(b"on each set", 5, c, c);
+// A key of one set on each, 0 and 9 included.
+fn other_sets(of: u32) {
+    on_each(test_keys::shape_of(of, false));
+}
+
+fn on_each(c: Shape) {
+    for set in 0..Set::LAST + 2 {
+        on(set, c);
+    }
+}
+
+fn on(set: u32, c: Shape) {
+    made(b"on each set", set, c, c);
 }
 
 // Coefficients at and one past each end: 3 before 15, and 15 before 6. At place 0 f and g are 1, at 511 they are 0.
@@ -102,7 +107,7 @@ fn ranges() {
 // Several faults at once: the first in the order 1, 2, 3, 15, 6.
 fn faults() {
     show::heading(b"key test, g = 0, a = 1: several faults");
-    sized(b"set 5, f 0 long, f 3, counts", 5, 0, 512, 512, 3);
+    sized(b"set 9, f 0 long, f 3, counts", 9, 0, 512, 512, 3);
     sized(b"f 0 long, f 3, counts", 1, 0, 512, 512, 3);
     sized(b"f 3, counts", 1, 512, 512, 512, 3);
     sized(b"counts, relation", 1, 512, 512, 512, 2);
@@ -170,8 +175,8 @@ fn less(n: usize, by: usize) -> usize {
 fn changed(text: &[u8], at: usize, f_at: i8, g_at: i8, more: u16)
     requires { ⌜ at < 512 ⌝ }
 {
-    let mut f = test_keys::polynomial(test_keys::shape_of(Set::I, true));
-    let mut g = test_keys::polynomial(test_keys::shape_of(Set::I, false));
+    let mut f = test_keys::polynomial(test_keys::shape_of(1, true));
+    let mut g = test_keys::polynomial(test_keys::shape_of(1, false));
     let mut a = test_keys::public_key(&f, &g);
     f[at] = f_at;
     g[at] = g_at;

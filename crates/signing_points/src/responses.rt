@@ -7,11 +7,11 @@ use lending::show;
 use sets::Set;
 use test_keys::Shape;
 
-// What is lent beside masks of 0: the set; the set whose list it is, kappa places from 0 on; f and g, with a = (2g + 1) / f, and so much more at
+// What is lent beside masks of 0: the set; the number of the set whose list it is, kappa places from 0 on; f and g, with a = (2g + 1) / f, and so much more at
 // place 511; y1 at place 511; the sign bit; every threshold; the count of words, all 0 but the one at `odd` and the next.
 struct Case {
     set: u32,
-    list_of: Set,
+    list_of: u32,
     f: Shape,
     g: Shape,
     more: u16,
@@ -27,12 +27,11 @@ const NONE: usize = 90;
 
 pub fn run() {
     thin();
-    own(b"set 1, 154 and 0", 1, Set::I);
-    own(b"set 2, 154 and 0", 2, Set::II);
-    own(b"set 3, 216 and 16", 3, Set::III);
-    own(b"set 4, 231 and 31", 4, Set::IV);
-    own(b"set 0, which stands for 4, the same", 0, Set::IV);
-    own(b"set 0, 154 and 0, 23 places", 0, Set::I);
+    each_set();
+    own(0, 4);
+    own(0, 1);
+    own(8, 4);
+    own(4, 8);
     unequal();
     counts();
     faults();
@@ -48,17 +47,29 @@ fn thin() {
     shown(b"no words", one(1, 1, 0));
     shown(b"set 4: 39 places are wanted", one(4, 1, 12));
     shown(b"set 0, which stands for 4: the same", one(0, 1, 12));
-    shown(b"set 5", one(5, 1, 12));
+    shown(b"set 9", one(9, 1, 12));
     show::heading(
         b"response, f and g of the set's counts, masks zero, list 0, 1, 2, .., words zero",
     );
 }
 
-// With enough words, one too few, either sign bit, and thresholds that nothing passes.
-fn own(text: &[u8], set: u32, s: Set) {
+fn each_set() {
+    for set in 1..Set::LAST + 1 {
+        own(set, set);
+    }
+}
+
+// A key and a list of a set, lent to a call on a set: with enough words, one too few, either sign bit, and thresholds that nothing passes.
+fn own(set: u32, s: u32) {
     let f = test_keys::shape_of(s, true);
     let g = test_keys::shape_of(s, false);
-    let r = shown(text, keyed(set, s, f, g, 0, 0, false, 1, 90, NONE));
+    show::number_after(b"  key and list of set ", s as u64);
+    show::number_after(b", lent to set ", set as u64);
+    show::heading(b"");
+    let r = shown(
+        b"  sign bit 0",
+        keyed(set, s, f, g, 0, 0, false, 1, 90, NONE),
+    );
     shown(
         b"  sign bit 1",
         keyed(set, s, f, g, 0, 0, true, 1, 90, NONE),
@@ -79,60 +90,57 @@ fn unequal() {
     show::heading(b"the same, thresholds 1, two words not zero");
     shown(
         b"set 3, the seventh and the eighth word 1: the first trial fails",
-        odd(3, Set::III, 6),
+        odd(3, 6),
     );
     shown(
         b"set 4, the eighth and the ninth word 1: the second trial fails and is tried again",
-        odd(4, Set::IV, 7),
+        odd(4, 7),
     );
 }
 
-fn odd(set: u32, s: Set, place: usize) -> Case {
-    let f = test_keys::shape_of(s, true);
-    let g = test_keys::shape_of(s, false);
-    keyed(set, s, f, g, 0, 0, false, 1, 90, place)
+fn odd(set: u32, place: usize) -> Case {
+    let f = test_keys::shape_of(set, true);
+    let g = test_keys::shape_of(set, false);
+    keyed(set, set, f, g, 0, 0, false, 1, 90, place)
 }
 
 fn counts() {
     show::heading(b"response, other counts, a = (2g + 1) / f");
-    other(b"set 1, f 155 and 0", 1, Set::I, 155, 0, 154, 0);
-    other(b"set 1, f 153 and 0", 1, Set::I, 153, 0, 154, 0);
-    other(b"set 1, g 155 and 0", 1, Set::I, 154, 0, 155, 0);
-    other(b"set 1, g 153 and 0", 1, Set::I, 154, 0, 153, 0);
-    other(b"set 2, f 152 and 1", 2, Set::II, 152, 1, 154, 0);
-    other(b"set 3, g 218 and 15", 3, Set::III, 216, 16, 218, 15);
-    other(b"set 4, f 230 and 32", 4, Set::IV, 230, 32, 231, 31);
-    other(b"set 4, the counts of set 3", 4, Set::IV, 216, 16, 216, 16);
+    other(b"set 1, f 155 and 0", 1, 155, 0, 154, 0);
+    other(b"set 1, f 153 and 0", 1, 153, 0, 154, 0);
+    other(b"set 1, g 155 and 0", 1, 154, 0, 155, 0);
+    other(b"set 1, g 153 and 0", 1, 154, 0, 153, 0);
+    other(b"set 2, f 152 and 1", 2, 152, 1, 154, 0);
+    other(b"set 3, g 218 and 15", 3, 216, 16, 218, 15);
+    other(b"set 4, f 230 and 32", 4, 230, 32, 231, 31);
+    other(b"set 4, the counts of set 3", 4, 216, 16, 216, 16);
 }
 
 // Several faults at once: the first in the order 4, 5, 15, 6. a is one more than it should be at place 511.
 fn faults() {
-    let f = test_keys::shape_of(Set::I, true);
-    let g = test_keys::shape_of(Set::I, false);
+    let f = test_keys::shape_of(1, true);
+    let g = test_keys::shape_of(1, false);
     let thin = shape(1, 0);
     show::heading(b"response, several faults");
     shown(
         b"a mask of 4097, list, counts, relation",
-        keyed(1, Set::III, thin, g, 1, 4097, false, 1, 90, NONE),
+        keyed(1, 3, thin, g, 1, 4097, false, 1, 90, NONE),
     );
     shown(
         b"list, counts, relation",
-        keyed(1, Set::III, thin, g, 1, 0, false, 1, 90, NONE),
+        keyed(1, 3, thin, g, 1, 0, false, 1, 90, NONE),
     );
     shown(
         b"counts, relation",
-        keyed(1, Set::I, thin, g, 1, 0, false, 1, 90, NONE),
+        keyed(1, 1, thin, g, 1, 0, false, 1, 90, NONE),
     );
-    shown(
-        b"relation",
-        keyed(1, Set::I, f, g, 1, 0, false, 1, 90, NONE),
-    );
+    shown(b"relation", keyed(1, 1, f, g, 1, 0, false, 1, 90, NONE));
 }
 
 fn one(set: u32, threshold: u64, words: usize) -> Case {
     keyed(
         set,
-        Set::I,
+        1,
         shape(1, 0),
         shape(0, 0),
         0,
@@ -144,20 +152,12 @@ fn one(set: u32, threshold: u64, words: usize) -> Case {
     )
 }
 
-fn other(
-    text: &[u8],
-    set: u32,
-    s: Set,
-    f_ones: usize,
-    f_twos: usize,
-    g_ones: usize,
-    g_twos: usize,
-) {
+fn other(text: &[u8], set: u32, f_ones: usize, f_twos: usize, g_ones: usize, g_twos: usize) {
     shown(
         text,
         keyed(
             set,
-            s,
+            set,
             shape(f_ones, f_twos),
             shape(g_ones, g_twos),
             0,
@@ -180,7 +180,7 @@ fn shape(ones: usize, twos: usize) -> Shape {
 
 fn keyed(
     set: u32,
-    list_of: Set,
+    list_of: u32,
     f: Shape,
     g: Shape,
     more: u16,
@@ -237,8 +237,8 @@ fn responded(c: Case, z1: &mut [i16], z2: &mut [i8]) -> Response {
     let mut y1 = [0i16; Set::DIMENSION];
     let y2 = [0i16; Set::DIMENSION];
     let places = rows::places(0, 0);
-    let s = c.list_of;
-    let list = lending::first_whole(&places, s.kappa());
+    let kappa = bursztok::bursztok_kappa(c.list_of) as usize;
+    let list = lending::first_whole(&places, kappa);
     let thresholds = [c.threshold; Set::PLACES];
     let words = words_of(c.odd);
     a[511] = std::num::wrapping_add_u16(a[511], c.more);

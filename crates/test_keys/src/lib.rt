@@ -2,6 +2,7 @@
 ghost use mathlib.Core.Path.{_≡_};
 ghost use lib.ListN.{length};
 ghost use Rattle.sets.specs.Numbers.{dimension};
+use sets::Asked;
 use sets::Set;
 
 // What is asked of a polynomial: so many coefficients of 2 from place 0 on, so many of 1 behind them; those at odd places are turned where `turned` says so.
@@ -11,12 +12,19 @@ pub struct Shape {
     pub turned: bool,
 }
 
-// The set's own counts.
-pub fn shape_of(s: Set, turned: bool) -> Shape {
-    Shape {
-        ones: s.ones() as usize,
-        twos: s.twos() as usize,
-        turned,
+// The counts of the set that a number stands for, and none where there is no such set.
+pub fn shape_of(set: u32, turned: bool) -> Shape {
+    match Set::asked(set) {
+        Asked::Unknown => Shape {
+            ones: 0,
+            twos: 0,
+            turned,
+        },
+        Asked::Known(s) => Shape {
+            ones: s.ones() as usize,
+            twos: s.twos() as usize,
+            turned,
+        },
     }
 }
 

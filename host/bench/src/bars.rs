@@ -56,7 +56,7 @@ const fn program(
     }
 }
 
-const ROWS: [Row; 12] = [
+const ROWS: [Row; 13] = [
     program(
         "product, both operands transformed",
         ("ring_bench", 2000),
@@ -98,6 +98,13 @@ const ROWS: [Row; 12] = [
         "response",
         Some(190_000),
         Some(423_380),
+    ),
+    call(
+        "response, set VIII",
+        Set::VIII,
+        "response",
+        Some(270_000),
+        None,
     ),
     call(
         "rebuild, set I",

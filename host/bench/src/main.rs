@@ -78,7 +78,9 @@ fn parse(words: &[String]) -> Result<Task, String> {
         None => None,
         Some(number) => {
             let set = u32::try_from(number).ok().and_then(Set::stated);
-            Some(set.ok_or_else(|| options.fault(format!("--set is {number}, expected 1 to 4")))?)
+            let last = Set::ALL.len();
+            let fault = || options.fault(format!("--set is {number}, expected 1 to {last}"));
+            Some(set.ok_or_else(fault)?)
         }
     };
     let sets = set.map_or(Set::ALL.to_vec(), |set| vec![set]);
@@ -244,7 +246,7 @@ mod tests {
             one("--run read --times 2 --set 3"),
             "Run(III, Library, Read, 2)"
         );
-        assert_eq!(one("--set=4 --milliseconds 5"), "Measure([IV], 5ms)");
+        assert_eq!(one("--set=8 --milliseconds 5"), "Measure([VIII], 5ms)");
     }
 
     #[test]
@@ -254,7 +256,7 @@ mod tests {
             assert_eq!(told, format!("bench: {said}; try --help"));
         };
         fault("--sets 1", "'--sets' is no option");
-        fault("--set 5", "--set is 5, expected 1 to 4");
+        fault("--set 9", "--set is 9, expected 1 to 8");
         fault("--run read", "--run and --times go together");
         fault("--run reads --times 1", "'reads' is no call");
         let both = "--instructions, --bars and --run do not go together";

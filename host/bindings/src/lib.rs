@@ -25,9 +25,9 @@ pub const VECTOR: usize = 512;
 /// The length of the row of thresholds.
 pub const THRESHOLDS: usize = 31;
 /// The length of the reader's list buffer.
-pub const LIST: usize = 39;
+pub const LIST: usize = 113;
 /// The length of the longest record.
-pub const RECORD: usize = 1638;
+pub const RECORD: usize = 1786;
 
 /// What a response takes beside the two vectors that it writes.
 #[derive(Clone, Copy, Debug)]

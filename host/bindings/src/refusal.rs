@@ -6,7 +6,7 @@ use std::fmt;
 #[derive(Clone, Copy, Debug, PartialEq, Eq)]
 pub enum Refusal {
     /// 1
-    SetAboveFour,
+    NoSuchSet,
     /// 2
     Length,
     /// 3
@@ -44,7 +44,7 @@ impl Refusal {
     pub fn outcome(number: u32, place: u32) -> Result<(), Refusal> {
         Err(match (number, place) {
             (0, 0) => return Ok(()),
-            (1, 0) => Refusal::SetAboveFour,
+            (1, 0) => Refusal::NoSuchSet,
             (2, 0) => Refusal::Length,
             (3, 0) => Refusal::Coefficient,
             (4, 0) => Refusal::Mask,
@@ -65,7 +65,7 @@ impl Refusal {
 
     pub fn number(self) -> u32 {
         match self {
-            Refusal::SetAboveFour => 1,
+            Refusal::NoSuchSet => 1,
             Refusal::Length => 2,
             Refusal::Coefficient => 3,
             Refusal::Mask => 4,
@@ -97,10 +97,10 @@ impl Refusal {
     /// The papers' words for the number.
     pub fn meaning(self) -> &'static str {
         match self {
-            Refusal::SetAboveFour => "set above 4",
+            Refusal::NoSuchSet => "set above 8",
             Refusal::Length => {
                 "a vector, read or written, isn't 512 long, thresholds not 31, or the reader's \
-                 list buffer not 39"
+                 list buffer not 113"
             }
             Refusal::Coefficient => "coefficient of f, g or a outside its range",
             Refusal::Mask => "mask coefficient outside -4,096 .. 4,096",
@@ -161,13 +161,17 @@ mod tests {
         let numbers = header.split("enum bursztok_number {").nth(1).unwrap();
         let numbers = numbers.split("};").next().unwrap();
         let values: Vec<&str> = numbers
-            .split(',')
-            .map(|line| line.split(" = ").nth(1).unwrap().trim())
+            .lines()
+            .filter_map(|line| line.split_once(" = "))
+            .map(|(_, value)| value.trim_end_matches(','))
             .collect();
-        let wanted: Vec<String> = (0..=15).map(|number| number.to_string()).collect();
+        let mut wanted: Vec<String> = (0..=15).map(|number| number.to_string()).collect();
+        // 1 has an older name too.
+        wanted.push("BURSZTOK_NO_SUCH_SET".to_string());
         assert_eq!(values, wanted);
         for (name, number) in [
             ("DONE", 0),
+            ("NO_SUCH_SET", 1),
             ("KEY_RELATION", 6),
             ("REJECTED", 8),
             ("ENTRY", 10),
@@ -180,9 +184,9 @@ mod tests {
 
     /// "Numbers that come back", word for word, with what paper 02 makes of them.
     const WORDS: [&str; 15] = [
-        "set above 4",
+        "set above 8",
         "a vector, read or written, isn't 512 long, thresholds not 31, or the reader's list \
-         buffer not 39",
+         buffer not 113",
         "coefficient of f, g or a outside its range",
         "mask coefficient outside -4,096 .. 4,096",
         "list not of the stated form, its count included",

@@ -16,9 +16,10 @@ use second::testing::keys::{self, Key};
 use second::testing::noise::Noise;
 use second::Set;
 use std::collections::HashMap;
+use std::ops::Range;
 
 /// The set numbers that calls take: 0 stands for one of the sets.
-const SET_NUMBERS: [u32; 5] = [0, 1, 2, 3, 4];
+const SET_NUMBERS: Range<u32> = 0..Set::ABOVE;
 /// So many cases share a key.
 const CASES_PER_KEY: u64 = 16;
 
@@ -46,6 +47,22 @@ enum Planned {
     Defaults { set: Set },
     /// The sizes of every number from 0 to 300, and of numbers about powers of two.
     Sizes,
+}
+
+impl Planned {
+    /// The number that its calls ask with, where it is planned for one.
+    fn number(self) -> Option<u32> {
+        match self {
+            Planned::Counts { set, .. }
+            | Planned::Pair { set, .. }
+            | Planned::HeaderByte { set, .. }
+            | Planned::RecordLengths { set }
+            | Planned::WordCounts { set }
+            | Planned::Walks { set }
+            | Planned::Figure { set, .. } => Some(set),
+            Planned::Defaults { .. } | Planned::Sizes => None,
+        }
+    }
 }
 
 /// Who runs a call: the library or the second program.
@@ -105,8 +122,9 @@ impl Plan {
         self.planned.len() as u64
     }
 
-    /// The planned cases that run this call.
-    pub fn about(&self, call: Call) -> Vec<u64> {
+    /// The planned cases that run this call; of those for one number, where one is given, only its
+    /// own.
+    pub fn about(&self, call: Call, number: Option<u32>) -> Vec<u64> {
         let about = |planned: &Planned| match planned {
             Planned::Counts { call: run, .. } | Planned::Pair { call: run, .. } => *run == call,
             Planned::HeaderByte { .. } | Planned::RecordLengths { .. } => {
@@ -118,9 +136,13 @@ impl Plan {
             Planned::Defaults { .. } => call.takes_set(),
             Planned::Sizes => !call.has_number(),
         };
+        let asks = |planned: &Planned| match (planned.number(), number) {
+            (Some(own), Some(wanted)) => own == wanted,
+            _ => true,
+        };
         let numbered = self.planned.iter().zip(0..);
         numbered
-            .filter_map(|(planned, number)| about(planned).then_some(number))
+            .filter_map(|(planned, case)| (about(planned) && asks(planned)).then_some(case))
             .collect()
     }
 
@@ -209,7 +231,7 @@ impl Plan {
                 found.story = format!("a sheet of set {} with every number", set.number());
                 let right = right_input(set, self.key(number, set), noise);
                 for call in Call::ALL.into_iter().filter(|call| call.takes_set()) {
-                    for set in 0..=5 {
+                    for set in 0..=Set::ABOVE {
                         let right = right.clone();
                         found.compare(call, &Input { set, ..right });
                     }
@@ -240,7 +262,7 @@ impl Plan {
             0 => Call::Respond,
             _ => noise.one_of(&Call::ALL),
         };
-        let set = noise.one_of(&SET_NUMBERS);
+        let set = noise.below(SET_NUMBERS.len()) as u32;
         found.story = format!("{}, set {set}", call.name());
         let all = faults_of(call);
         let mut faults = Vec::new();
@@ -351,8 +373,8 @@ impl Found {
     /// that does with it.
     fn require_default(&mut self, side: Side, call: Call, right: &Input) {
         let (plain, default, numbers) = match call {
-            Call::RebuildDefaultOne => (Call::Rebuild, 1, 0..=5),
-            Call::CompareDefaultOne => (Call::Compare, 1, 0..=5),
+            Call::RebuildDefaultOne => (Call::Rebuild, 1, 0..=Set::ABOVE),
+            Call::CompareDefaultOne => (Call::Compare, 1, 0..=Set::ABOVE),
             _ => (call, 4, 0..=0),
         };
         let left = |call: Call, set: u32| {
@@ -442,13 +464,30 @@ impl Found {
 
 #[cfg(test)]
 mod tests {
-    use super::{Found, Side};
+    use super::{Found, Plan, Planned, Side};
     use crate::costs::Cost;
     use crate::inputs::right_input;
     use second::testing::calls::{run, Call, Input};
     use second::testing::keys;
     use second::testing::noise::Noise;
     use second::Set;
+    use std::collections::BTreeSet;
+
+    #[test]
+    fn every_call_is_planned_with_every_number() {
+        let pair = |planned: Planned| match planned {
+            Planned::Pair { call, set, .. } => Some((call, set)),
+            _ => None,
+        };
+        let planned = Plan::new(1).planned.into_iter();
+        let planned: BTreeSet<(Call, u32)> = planned.filter_map(pair).collect();
+        for call in Call::ALL {
+            for number in 0..Set::ABOVE {
+                let name = call.name();
+                assert!(planned.contains(&(call, number)), "{name}, set {number}");
+            }
+        }
+    }
 
     /// The calls that a side with a wrong default is found out by, on a sheet of this set.
     fn found_out(set: Set, side: Side) -> Vec<Call> {

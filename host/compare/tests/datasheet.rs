@@ -1,7 +1,8 @@
 //! The tables of docs/DATASHEET.md say what the library, the second program, docs/CALLS.md and
 //! docs/PERFORMANCE.md say; its version, and the header's table and figures, are the same.
 
-use second::parameters::{KeyCounts, N};
+use second::parameters::{KeyCounts, LIST_BUFFER, N, THRESHOLDS};
+use second::record::LONGEST;
 use second::Set;
 use std::fs;
 
@@ -68,9 +69,9 @@ fn the_calls_have_the_figures_of_calls_and_performance() {
     let both = |one: &str, other: &str| {
         format!("{}, {}", counted(&format!("{one}, set I")), of_set_1(other))
     };
-    let response = counted("response, set I / III / IV");
+    let response = counted("response, set I / III / IV / VIII");
     let wanted = [
-        ("response", format!("{response} (sets I / III / IV)")),
+        ("response", format!("{response} (sets I / III / IV / VIII)")),
         ("key test", of_set_1("key test")),
         (
             "rebuild, with default one",
@@ -108,27 +109,49 @@ fn the_headers_table_has_the_numbers_of_the_sets() {
     let table = header.split(" *    set  kappa ").nth(1);
     let rows = table.expect("the header has the table").lines().skip(1);
     for (set, row) in Set::ALL.into_iter().zip(rows) {
-        let cells = row.trim_start_matches(" *").split_whitespace();
-        let told: Vec<i64> = cells
-            .map(|cell| cell.replace(',', "").parse().expect("a number"))
-            .collect();
-        let KeyCounts { ones, twos } = set.key_counts();
-        let record_bytes = bursztok::record_bytes(set.number());
-        let sizes = [set.kappa(), ones, twos, record_bytes].map(|size| size as i64);
-        let [kappa, d1, d2, record_bytes] = sizes;
-        let (number, d, p) = (set.number().into(), set.d().into(), set.p());
-        let limits = [set.largest(), set.b2_squared(), set.k()];
-        let wanted = [&[number, kappa, d, p], &limits[..], &[d1, d2, record_bytes]];
-        assert_eq!(told, wanted.concat());
+        let cells = row.trim_start_matches(" *").replace(',', "");
+        let told: Vec<&str> = cells.split_whitespace().collect();
+        let (number, kappa) = (set.number(), set.kappa());
+        let others = if set.like() == set {
+            let KeyCounts { ones, twos } = set.key_counts();
+            let (d, p, largest) = (set.d(), set.p(), set.largest());
+            let (b2_squared, k) = (set.b2_squared(), set.k());
+            format!("{d} {p} {largest} {b2_squared} {k} {ones} {twos}")
+        } else {
+            format!("as set {}", set.like().number())
+        };
+        let record_bytes = bursztok::record_bytes(number);
+        let wanted = format!("{number} {kappa} {others} {record_bytes}");
+        assert_eq!(told.join(" "), wanted);
+    }
+}
+
+#[test]
+fn the_headers_lengths_are_those_of_the_bindings() {
+    let header = text("include/bursztok.h");
+    for (name, length, second) in [
+        ("VECTOR", bursztok::VECTOR, N),
+        ("THRESHOLDS", bursztok::THRESHOLDS, THRESHOLDS),
+        ("LIST", bursztok::LIST, LIST_BUFFER),
+        ("RECORD", bursztok::RECORD, LONGEST),
+    ] {
+        assert_eq!(length, second, "{name}");
+        let line = format!("\n#define BURSZTOK_{name} {length}\n");
+        assert!(header.contains(&line), "{line}");
     }
 }
 
 #[test]
 fn the_header_tells_the_figures() {
-    let figures = Set::ALL.map(|set| set.figure().to_string()).join(", ");
+    let (published, longer) = Set::ALL.split_at(4);
+    let figures = |sets: &[Set]| {
+        let figures: Vec<String> = sets.iter().map(|set| set.figure().to_string()).collect();
+        figures.join(", ")
+    };
+    assert_eq!(figures(longer), figures(published));
     let said = format!(
-        "2^d + 1, that is {figures} for sets 1 to {}.",
-        Set::ALL.len()
+        "2^d + 1, that is {} for sets 1 to 4, and as much for sets 5 to 8.",
+        figures(published)
     );
     assert!(text("include/bursztok.h").contains(&said), "{said}");
 }

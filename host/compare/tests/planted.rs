@@ -1,6 +1,7 @@
 //! The comparison can fail: a library with a planted fault is caught, for every fault.
 #![cfg(target_arch = "x86_64")]
 
+use second::Set;
 use std::process::Command;
 
 #[test]
@@ -35,7 +36,9 @@ fn the_comparison_ends_red_with_a_fault_and_green_without() {
     // The last planned case asks for sizes alone.
     let (status, last) = sizes("kappa: off by one");
     assert_eq!(status, Some(1));
-    assert!(last.contains(" passed, 5 failed"), "{last}");
+    // 0 and each set's number have a kappa.
+    let failed = format!(" passed, {} failed", Set::ABOVE);
+    assert!(last.contains(&failed), "{last}");
     let (status, last) = sizes("reader: set off by one");
     assert_eq!(status, Some(0));
     assert!(last.ends_with(" passed, 0 failed"), "{last}");

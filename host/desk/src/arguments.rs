@@ -1,6 +1,7 @@
 //! The options of a subcommand, and the files that they name.
 
 use crate::failure::Failure;
+use second::Set;
 use shell::console::shown;
 use shell::files::{is_stream, same_file};
 use shell::options::Options;
@@ -120,9 +121,9 @@ impl Arguments {
     pub fn set(&self) -> Result<u32, Failure> {
         let word = self.required("set")?;
         word.parse().map_err(|_| {
-            let word = shown(word);
+            let (word, last) = (shown(word), Set::ALL.len());
             self.fault(format!(
-                "--set is '{word}', expected a set number (1 to 4, or 0 for set 4)"
+                "--set is '{word}', expected a set number (1 to {last}, or 0 for set 4)"
             ))
         })
     }

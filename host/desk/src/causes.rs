@@ -26,9 +26,10 @@ pub fn explain(refused: &mut Refused, set: u32, vectors: &[Vector]) {
     };
     let causes = &mut refused.causes;
     match refused.refusal {
-        Refusal::SetAboveFour => {
+        Refusal::NoSuchSet => {
+            let last = Set::ALL.len();
             causes.push(format!(
-                "set {set}: sets are 1 to 4, and 0 stands for set 4"
+                "set {set}: sets are 1 to {last}, and 0 stands for set 4"
             ));
         }
         Refusal::Length => causes.extend(vectors.iter().filter_map(wrong_count)),
@@ -265,8 +266,8 @@ mod tests {
         let f = "f.txt: 1 coefficient of 1 or -1 and 0 of 2 or -2, set 0, which stands for set 4, \
                  wants 231 and 31";
         assert_eq!(causes_of(0, 15, 0, &lent("f", &[1])), [f]);
-        let above = "set 5: sets are 1 to 4, and 0 stands for set 4";
-        assert_eq!(causes_of(5, 1, 0, &Lent::default()), [above]);
+        let above = "set 9: sets are 1 to 8, and 0 stands for set 4";
+        assert_eq!(causes_of(9, 1, 0, &Lent::default()), [above]);
     }
 
     #[test]

@@ -27,10 +27,11 @@ const CHANGED_SHEET: &str =
 
 pub fn demo(arguments: &Arguments) -> Result<ExitCode, Failure> {
     let number = arguments.number_or("set", 0)?;
+    let last = Set::ALL.len();
     let set = u32::try_from(number)
         .ok()
         .and_then(|number| Set::asked(number).ok())
-        .ok_or_else(|| arguments.fault(format!("--set is {number}, expected 0 to 4")))?;
+        .ok_or_else(|| arguments.fault(format!("--set is {number}, expected 0 to {last}")))?;
     let seed = arguments.number_or("seed", 1)?;
     let sheets = arguments.number_or("sheets", 0)?;
     let folder = arguments.given("folder").map(Path::new);

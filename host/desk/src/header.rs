@@ -2,6 +2,7 @@
 
 use crate::record::Record;
 use bursztok::VECTOR;
+use second::Set;
 use std::ops::Range;
 
 /// The bytes of a header.
@@ -52,7 +53,7 @@ impl Field {
     fn expected(&self, set: u32) -> String {
         match self.bytes.start {
             0 => "BLB1 expected".to_string(),
-            4 => "1 to 4 expected".to_string(),
+            4 => format!("1 to {} expected", Set::ALL.len()),
             _ => match (self.wanted)(set) {
                 Some(number) => format!("{number} expected"),
                 None => String::new(),
@@ -117,7 +118,7 @@ mod tests {
             wrong_field(&Record::of("sheet", bytes), place)
         };
         assert_eq!(told(3, b'2'), "bytes 0-3, letters: BLB2, BLB1 expected");
-        assert_eq!(told(4, 7), "byte 4, set: 7, 1 to 4 expected");
+        assert_eq!(told(4, 9), "byte 4, set: 9, 1 to 8 expected");
         assert_eq!(told(5, 1), "byte 5, zero: 1, 0 expected");
         assert_eq!(told(7, 1), "bytes 6-7, count of z1: 256, 512 expected");
         assert_eq!(told(8, 25), "bytes 8-9, offset of z1: 25, 24 expected");
@@ -145,8 +146,8 @@ mod tests {
         assert_eq!(wrong_field(&short, 7), "7 bytes, a header has 24");
         let long = Record {
             length: None,
-            ..Record::of("sheet", vec![0; 1639])
+            ..Record::of("sheet", vec![0; 1787])
         };
-        assert_eq!(long.size(), "more than 1638 bytes");
+        assert_eq!(long.size(), "more than 1786 bytes");
     }
 }

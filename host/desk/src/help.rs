@@ -1,7 +1,7 @@
 //! What --help prints.
 
 pub const OVERVIEW: &str = "\
-bursztok: signs and checks cargo sheets with BLISS-B, sets I to IV
+bursztok: signs and checks cargo sheets with BLISS-B, sets 1 to 8
 
   bursztok demo        the main job end to end, with a test key
   bursztok key-test    test a key
@@ -19,7 +19,7 @@ are text files: whole numbers between white space, '#' starts a comment. Records
 '-' is standard input for a file that is read and standard output for one that is written; what is
 said then goes to standard error. Noise and hash are yours: masks, words, thresholds and lists come
 from files. For trials bursztok-second makes them, with test keys; they are for tests only.
-Sets are 1 to 4; 0 stands for set 4. A file is written whole or not at all: first as FILE.part
+Sets are 1 to 8; 0 stands for set 4. A file is written whole or not at all: first as FILE.part
 beside it, then renamed.
 
 Exit status: 0 done; 1 refused, with the file, the cause, number, place and meaning; 2 bad usage or
@@ -34,7 +34,7 @@ Makes a test key, signs a sheet on the ship, hands the record over, checks it on
 shows damaged records refused. The key, the masks and the hash are the second program's, for tests
 only; everything that signs and checks is the library's.
 
-  --set N       the parameter set, 1 to 4, or 0 for set 4 (default 0)
+  --set N       the parameter set, 1 to 8, or 0 for set 4 (default 0)
   --seed N      what key and noise are made from (default 1)
   --sheets N    then sign and check so many sheets more, with progress (default 0)
   --folder DIR  keep the sheet, its record and the text files of this run there: all that
@@ -61,8 +61,8 @@ Refusals in order: 1, 2, 3, 4.
 
 With --rests or --plot it tells how far each sum lies from its rounded step too. The rest is the
 sum minus 2^d times its rounded quotient, before the remainder by p, and lies in -2^(d-1) ..
-2^(d-1) - 1; d is 10 for sets 1 and 2, 9 for set 3, 8 for set 4. No file takes its place before all
-are written.
+2^(d-1) - 1; d is 10 for sets 1, 2, 5 and 6, 9 for sets 3 and 7, 8 for sets 4 and 8. No file takes
+its place before all are written.
 
   --set N               the parameter set
   --folder DIR          holds a.txt, y1.txt and y2.txt

@@ -240,8 +240,8 @@ mod tests {
         assert!(histogram(3, &rests).is_ok());
         let told = "a rest is 128, -128 to 127 expected".to_string();
         assert_eq!(histogram(4, &rests), Err(Failure::Fault(told)));
-        let told = "it gave rests for set 5".to_string();
-        assert_eq!(histogram(5, &rests), Err(Failure::Fault(told)));
+        let told = "it gave rests for set 9".to_string();
+        assert_eq!(histogram(9, &rests), Err(Failure::Fault(told)));
     }
 
     #[test]

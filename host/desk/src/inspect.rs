@@ -5,7 +5,7 @@ use crate::arguments::Arguments;
 use crate::failure::Failure;
 use crate::header::{FIELDS, HEADER};
 use crate::record::{pairs, Record};
-use bursztok::{Refusal, Section};
+use bursztok::{Refusal, Section, VECTOR};
 use shell::console::print;
 use shell::numbers::joined;
 use shell::{say, warn};
@@ -179,12 +179,15 @@ where
         return String::new();
     };
     let start = section.part.as_ptr() as usize - record.as_ptr() as usize;
+    let (shown, more) = match entries.len() {
+        VECTOR => (SHOWN, " .."),
+        count => (count, ""),
+    };
     let mut text = format!(
-        "{name:<11} bytes {start} .. {}, {} entries from {least} to {most}: {}{}\n",
+        "{name:<11} bytes {start} .. {}, {} entries from {least} to {most}: {}{more}\n",
         start + section.part.len() - 1,
         entries.len(),
-        joined(&entries[..entries.len().min(SHOWN)]),
-        if entries.len() > SHOWN { " .." } else { "" }
+        joined(&entries[..shown]),
     );
     if let Some((place, entry)) = wrong.and_then(|place| Some((place, entries.get(place)?))) {
         text += &format!("            <-- wrong: entry {place} is {entry}\n");
@@ -192,5 +195,5 @@ where
     text
 }
 
-/// The entries that are shown of a section: all of a list.
-const SHOWN: usize = bursztok::LIST;
+/// The entries that are shown of a vector. A list is shown whole.
+const SHOWN: usize = 32;

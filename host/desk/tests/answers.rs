@@ -56,8 +56,13 @@ fn inspect_shows_every_field_and_section() {
         let section = |name: &str, start: usize, end: usize, entries: Vec<i64>| {
             let (least, most) = (entries.iter().min().unwrap(), entries.iter().max().unwrap());
             let count = entries.len();
-            let first: Vec<String> = entries.iter().take(39).map(i64::to_string).collect();
-            let more = if count > 39 { " .." } else { "" };
+            // The first of a vector, and all of a list.
+            let (shown, more) = if count == 512 {
+                (32, " ..")
+            } else {
+                (count, "")
+            };
+            let first: Vec<String> = entries.iter().take(shown).map(i64::to_string).collect();
             format!(
                 "{name:<11} bytes {start} .. {end}, {count} entries from {least} to {most}: {}{more}",
                 first.join(" ")
@@ -218,8 +223,9 @@ fn answers_are_given_as_json() {
 
 #[test]
 fn the_demo_runs_for_every_set() {
-    for set in ["0", "1", "2", "3", "4"] {
-        let words = ["demo", "--set", set, "--seed", "3", "--sheets", "3"];
+    for number in 0..Set::ABOVE {
+        let set = number.to_string();
+        let words = ["demo", "--set", &set, "--seed", "3", "--sheets", "3"];
         let (code, said, _) = run(&words);
         assert_eq!(code, 0);
         for line in [
@@ -243,6 +249,7 @@ fn the_demo_takes_the_default_of_a_call() {
     expect(&["demo"], 0, "with set 4 and seed 1");
     expect(&["demo", "--set", "0"], 0, "with set 4 and seed 1");
     expect(&["demo", "--set", "1"], 0, "with set 1 and seed 1");
+    expect(&["demo", "--set", "8"], 0, "with set 8 and seed 1");
 }
 
 #[test]

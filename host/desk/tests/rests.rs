@@ -135,8 +135,7 @@ fn see_picture(set: Set, svg: &str, rests: &[i64]) {
     let elements = elements_of(svg);
     let root = "svg xmlns='http://www.w3.org/2000/svg' ";
     assert!(elements[0].0.starts_with(root), "{elements:?}");
-    let roman = ["I", "II", "III", "IV"][set.number() as usize - 1];
-    let title = format!("Rests after rounding, BLISS-B set {roman}");
+    let title = format!("Rests after rounding, BLISS-B set {set:?}");
     assert_eq!(elements[1], ("title", title.as_str()));
     assert_eq!(texts_in(svg, "title", "text"), [title]);
     let (d, step, width) = (set.d(), set.step(), edges[1] - edges[0]);
@@ -192,8 +191,8 @@ fn rests_and_digits_give_the_sums_back() {
 
 #[test]
 fn the_plot_counts_the_rests_of_its_set() {
-    for asked in ["0", "1", "2", "3", "4"] {
-        let set = Set::asked(asked.parse().unwrap()).unwrap();
+    for number in 0..Set::ABOVE {
+        let (set, asked) = (Set::asked(number).unwrap(), number.to_string());
         let folder = Folder::new(&format!("plot-{asked}"));
         files_of(set, &folder);
         let path = folder.path("");
@@ -203,19 +202,22 @@ fn the_plot_counts_the_rests_of_its_set() {
             "The commitment is in {out}. Hash it with the sheet to make the list. The rests are \
              in {rests}. The histogram of the rests is in {plot}.\n"
         );
-        assert_eq!(run(&commit(asked, &path, &files)), (0, said, String::new()));
+        assert_eq!(
+            run(&commit(&asked, &path, &files)),
+            (0, said, String::new())
+        );
         let svg = std::fs::read_to_string(&plot).unwrap();
         see_picture(set, &svg, &numbers(&rests));
 
         // The same picture without a file of rests, and nothing else beside the commitment.
         std::fs::remove_file(&rests).unwrap();
         let digits = std::fs::read(&out).unwrap();
-        let words = commit(asked, &path, &["--out", &out, "--plot", &plot]);
+        let words = commit(&asked, &path, &["--out", &out, "--plot", &plot]);
         expect(&words, 0, "The histogram of the rests is in ");
         assert_eq!(std::fs::read_to_string(&plot).unwrap(), svg);
         assert_eq!(std::fs::read(&out).unwrap(), digits);
         assert!(!Path::new(&rests).exists());
-        let words = commit(asked, &path, &["--out", &out]);
+        let words = commit(&asked, &path, &["--out", &out]);
         expect(&words, 0, "to make the list.\n");
         assert_eq!(std::fs::read(&out).unwrap(), digits);
     }
@@ -367,7 +369,7 @@ fn a_refusal_writes_no_rests() {
         );
         assert_eq!(contents(&folder), before);
     };
-    refused("5", "number 1, place 0: set above 4");
+    refused("9", "number 1, place 0: set above 8");
     let mut y2 = files.last_try.y2.clone();
     y2[3] = 4097;
     folder.put("y2", &y2);

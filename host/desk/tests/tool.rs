@@ -3,7 +3,7 @@
 mod setting;
 
 use second::testing::hash::list_of;
-use second::Set;
+use second::{Edition, Refusal, Set};
 use setting::{expect, files_of, numbers, run, Folder, HASH, SHEET};
 use std::ffi::OsStr;
 use std::fs::File;
@@ -53,6 +53,31 @@ fn a_sheet_is_signed_and_checked_through_files() {
     }
 }
 
+/// 02, C-22: the second program's reader of before, on records that the library wrote.
+#[test]
+fn an_older_reader_refuses_the_record_of_a_new_set_at_byte_4() {
+    for set in Set::ALL {
+        let folder = Folder::new(&format!("older-{}", set.number()));
+        files_of(set, &folder);
+        let (path, record) = (folder.path(""), folder.path("record"));
+        let number = set.number().to_string();
+        let sign = [
+            "sign", "--set", &number, "--folder", &path, "--record", &record,
+        ];
+        expect(&sign, 0, "given out");
+        let bytes = std::fs::read(&record).unwrap();
+        let older = Edition::OLDER;
+        let (mut z1, mut z2_dagger) = (vec![0; 512], vec![0; 512]);
+        let mut list = vec![0; older.list_buffer()];
+        let reading = older.read(&bytes, &mut z1, &mut z2_dagger, &mut list);
+        let wanted = match set.like() == set {
+            true => (Ok(()), set.number()),
+            false => (Err(Refusal::header(4)), 0),
+        };
+        assert_eq!((reading.outcome, reading.set), wanted, "{set:?}");
+    }
+}
+
 #[test]
 fn a_check_rests_on_the_hash_of_the_rebuilt_vector() {
     for set in Set::ALL {
@@ -78,7 +103,10 @@ fn a_check_rests_on_the_hash_of_the_rebuilt_vector() {
         let other = folder.path("other");
         std::fs::write(&other, b"another sheet").unwrap();
         check(&a, &record, &other, 1, "number 12, place 0");
-        check(&a, &record, &other, 1, "differ: entry 0 is ");
+        // The hash of another sheet starts 0, 1, 2.
+        let mut pairs = (0..).zip(&signed.signature.list);
+        let at = pairs.position(|(place, entry)| place != *entry).unwrap();
+        check(&a, &record, &other, 1, &format!("differ: entry {at} is "));
         let mut bytes = std::fs::read(&record).unwrap();
         bytes[24] ^= 1;
         std::fs::write(&other, &bytes).unwrap();
@@ -184,8 +212,8 @@ fn refusals_end_with_number_place_and_meaning() {
     let key_test = |set: &str, said: &str| {
         expect(&["key-test", "--set", set, "--folder", &path], 1, said);
     };
-    key_test("5", "number 1, place 0: set above 4");
-    key_test("5", "set 5: sets are 1 to 4, and 0 stands for set 4");
+    key_test("9", "number 1, place 0: set above 8");
+    key_test("9", "set 9: sets are 1 to 8, and 0 stands for set 4");
     let sign = ["sign", "--set", "2", "--folder", &path, "--record", &record];
     expect(&sign, 0, "given out");
     folder.put("words", &[0; 0]);
@@ -487,7 +515,8 @@ fn bad_usage_is_told() {
     expect(&["help", "sing"], 2, "'sing' is no subcommand");
     expect(&["key-test"], 2, "--set is missing");
     expect(&["key-test", "--set"], 2, "--set wants a value");
-    expect(&["key-test", "--set", "one"], 2, "--set is 'one'");
+    let word = "--set is 'one', expected a set number (1 to 8, or 0 for set 4)";
+    expect(&["key-test", "--set", "one"], 2, word);
     expect(&["key-test", "--set", "1"], 2, "--f is missing");
     expect(
         &["key-test", "--set", "1", "--set=1"],
@@ -502,7 +531,7 @@ fn bad_usage_is_told() {
     expect(&["key-test", "1"], 2, "'1' is one word too many");
     expect(&["inspect"], 2, "no record is named");
     expect(&["completion", "fish"], 2, "the shell is bash");
-    expect(&["demo", "--set", "7"], 2, "expected 0 to 4");
+    expect(&["demo", "--set", "9"], 2, "expected 0 to 8");
     expect(&["demo", "--folder", ""], 2, "--folder wants a value");
 }
 
@@ -526,6 +555,28 @@ fn every_subcommand_has_help_and_completion() {
         .args(["-n", "-c", &completion])
         .status();
     assert!(read.unwrap().success());
+}
+
+#[test]
+fn help_has_every_set() {
+    let last = Set::ALL.len();
+    let (overview, demo) = (run(&["--help"]).1, run(&["help", "demo"]).1);
+    assert!(overview.contains(&format!("BLISS-B, sets 1 to {last}\n")));
+    assert!(overview.contains(&format!("Sets are 1 to {last}; 0 stands for set 4.")));
+    assert!(demo.contains(&format!("set, 1 to {last}, or 0 for set 4 (default 0)\n")));
+    let sets_of = |d: u32| {
+        let sets = Set::ALL.into_iter().filter(|set| set.d() == d);
+        let numbers: Vec<String> = sets.map(|set| set.number().to_string()).collect();
+        let (last, others) = numbers.split_last().unwrap();
+        format!("{d} for sets {} and {last}", others.join(", "))
+    };
+    let commit: Vec<String> = run(&["help", "commit"])
+        .1
+        .lines()
+        .map(str::to_string)
+        .collect();
+    let said = format!("d is {}.", [10, 9, 8].map(sets_of).join(", "));
+    assert!(commit.join(" ").contains(&said), "{said}");
 }
 
 #[test]

@@ -8,10 +8,10 @@ pub struct Refusal {
 }
 
 impl Refusal {
-    /// The set is above 4.
+    /// The set is above the last one.
     pub const SET: Refusal = Refusal::at(1, 0);
     /// A vector, read or written, is not 512 long, the thresholds not 31, or the reader's list
-    /// buffer not 39.
+    /// buffer not as long as the longest list.
     pub const LENGTH: Refusal = Refusal::at(2, 0);
     /// A coefficient of f, g or a is outside its range.
     pub const COEFFICIENT: Refusal = Refusal::at(3, 0);

@@ -1,5 +1,6 @@
 //! The independent second program: the thirteen calls of papers 01 and 02, written from the papers,
-//! and the two that tell a set's sizes.
+//! and the two that tell a set's sizes. `Edition::OLDER` has the calls on a record as they were before
+//! the longer challenges.
 //!
 //! Every product is the plain signed-wrap sum over whole numbers. Nothing is shared with the
 //! proved library: no code, no table, no transform. One module a section of the paper.
@@ -25,7 +26,7 @@ pub use answers::{Reading, Refusal, Response};
 pub use commitment::{commitment, commitment_with_rests};
 pub use comparison::{compare, compare_default_one};
 pub use key::key_test;
-pub use parameters::Set;
+pub use parameters::{Edition, Set};
 pub use rebuild::{rebuild, rebuild_default_one};
 pub use record::{list_section, read, write, z1_section, z2_section};
 pub use response::respond;

@@ -1,12 +1,13 @@
 //! Makes files for trying the desk's tool: test keys, a try of signing that is given out, and
-//! the test hash; and the test key of the C example.
+//! the test hash; and the test key of the C example. Reads a record as an older reader does.
 
+use second::answers::number_and_place;
 use second::parameters::N;
 use second::testing::hash::list_of;
 use second::testing::keys::published;
 use second::testing::noise::{thresholds, Noise};
 use second::testing::sheet::sign;
-use second::Set;
+use second::{Edition, Set};
 use shell::console::{arguments, shown};
 use shell::files::{make_folder, read_file, write_files};
 use shell::numbers::{joined, read_numbers, text_of};
@@ -32,9 +33,13 @@ bursztok-second: test files for the desk's tool, made by the second program
   bursztok-second hash SET
       The same of standard input: the vector in two bytes an entry, low first, then the message,
       as 'bursztok check --hash' gives them.
+  bursztok-second read RECORD
+      Prints what the reader answers for the file RECORD: number, place and set.
+  bursztok-second read-older RECORD
+      The same of the reader before the longer challenges, which knows sets 1 to 4.
 
-SET is 1 to 4, or 0 for set 4. '-' stands for standard input. Keys and hash are for tests only.
-Exit status: 0 done, 2 bad usage or bad file.";
+SET is 1 to 8, or 0 for set 4. '-' stands for standard input. Keys and hash are for tests only.
+Exit status: 0 done, 1 the reader refuses, 2 bad usage or bad file.";
 
 fn main() -> ExitCode {
     let words = arguments();
@@ -43,7 +48,7 @@ fn main() -> ExitCode {
         return ExitCode::SUCCESS;
     }
     match run(&words) {
-        Ok(()) => ExitCode::SUCCESS,
+        Ok(status) => status,
         Err(message) => {
             warn!("bursztok-second: {message}");
             ExitCode::from(2)
@@ -51,7 +56,7 @@ fn main() -> ExitCode {
     }
 }
 
-fn run(words: &[String]) -> Result<(), String> {
+fn run(words: &[String]) -> Result<ExitCode, String> {
     let Some((name, rest)) = words.split_first() else {
         return Err("a subcommand is missing; try --help".to_string());
     };
@@ -65,12 +70,15 @@ fn run(words: &[String]) -> Result<(), String> {
         Options::parse(form, rest)
     };
     match name.as_str() {
-        "try" => make_try(taken(&["SET", "SEED", "MESSAGE", "FOLDER"])?.words()),
-        "header" => print_header(taken(&["SET", "SEED"])?.words()),
-        "hash" if rest.len() < 2 => hash_stream(taken(&["SET"])?.words()),
-        "hash" => hash_files(taken(&["SET", "VECTOR", "MESSAGE"])?.words()),
-        _ => Err(format!("'{}' is no subcommand; try --help", shown(name))),
+        "try" => make_try(taken(&["SET", "SEED", "MESSAGE", "FOLDER"])?.words())?,
+        "header" => print_header(taken(&["SET", "SEED"])?.words())?,
+        "hash" if rest.len() < 2 => hash_stream(taken(&["SET"])?.words())?,
+        "hash" => hash_files(taken(&["SET", "VECTOR", "MESSAGE"])?.words())?,
+        "read" => return read(Edition::THIS, taken(&["RECORD"])?.words()),
+        "read-older" => return read(Edition::OLDER, taken(&["RECORD"])?.words()),
+        _ => return Err(format!("'{}' is no subcommand; try --help", shown(name))),
     }
+    Ok(ExitCode::SUCCESS)
 }
 
 fn make_try(words: &[String]) -> Result<(), String> {
@@ -161,9 +169,20 @@ fn hash_stream(words: &[String]) -> Result<(), String> {
     Ok(())
 }
 
+fn read(edition: Edition, words: &[String]) -> Result<ExitCode, String> {
+    let record = read_file(Path::new(&words[0]))?;
+    let (mut z1, mut z2_dagger) = (vec![0; N], vec![0; N]);
+    let mut list = vec![0; edition.list_buffer()];
+    let reading = edition.read(&record, &mut z1, &mut z2_dagger, &mut list);
+    let (number, place) = number_and_place(reading.outcome);
+    say!("number {number}, place {place}, set {}", reading.set);
+    Ok(ExitCode::from(u8::from(number != 0)))
+}
+
 fn set_named(word: &str) -> Result<Set, String> {
     let set = word.parse().ok().and_then(|number| Set::asked(number).ok());
-    set.ok_or_else(|| format!("'{}' is not a set from 1 to 4", shown(word)))
+    let last = Set::ALL.len();
+    set.ok_or_else(|| format!("'{}' is not a set from 1 to {last}", shown(word)))
 }
 
 fn seed_named(word: &str) -> Result<u64, String> {

@@ -10,8 +10,8 @@ pub const Q: i64 = 12289;
 pub const MASK_LIMIT: i64 = 4096;
 /// The number of thresholds that the draw is lent.
 pub const THRESHOLDS: usize = 31;
-/// The length of the reader's list buffer: the largest kappa.
-pub const LIST_BUFFER: usize = 39;
+/// The length of the reader's list buffer.
+pub const LIST_BUFFER: usize = Edition::THIS.list_buffer();
 
 /// How many coefficients of a polynomial are 1 or -1, and how many are 2 or -2.
 #[derive(Clone, Copy, Debug, PartialEq, Eq)]
@@ -20,16 +20,41 @@ pub struct KeyCounts {
     pub twos: usize,
 }
 
+/// The sets of paper 01, and those of paper 02 with longer challenges (C-22).
 #[derive(Clone, Copy, Debug, PartialEq, Eq)]
 pub enum Set {
-    I,
+    I = 1,
     II,
     III,
     IV,
+    V,
+    VI,
+    VII,
+    VIII,
+}
+
+/// A row of paper 01's table: what is asked of a set beside its number and kappa.
+enum Row {
+    First,
+    Second,
+    Third,
+    Fourth,
 }
 
 impl Set {
-    pub const ALL: [Set; 4] = [Set::I, Set::II, Set::III, Set::IV];
+    pub const ALL: [Set; 8] = [
+        Set::I,
+        Set::II,
+        Set::III,
+        Set::IV,
+        Set::V,
+        Set::VI,
+        Set::VII,
+        Set::VIII,
+    ];
+
+    /// The first number above the sets.
+    pub const ABOVE: u32 = Set::ALL.len() as u32 + 1;
 
     /// The set that a call's number asks for: 0 stands for set 4 (02, C-17).
     pub fn asked(number: u32) -> Result<Set, Refusal> {
@@ -54,39 +79,57 @@ impl Set {
     }
 
     pub fn number(self) -> u32 {
+        self as u32
+    }
+
+    /// The challenge size.
+    pub const fn kappa(self) -> usize {
         match self {
-            Set::I => 1,
-            Set::II => 2,
-            Set::III => 3,
-            Set::IV => 4,
+            Set::I | Set::II => 23,
+            Set::III => 30,
+            Set::IV => 39,
+            Set::V | Set::VI => 58,
+            Set::VII => 82,
+            Set::VIII => 113,
+        }
+    }
+
+    /// The set of paper 01 that it is like: but for kappa it has the numbers of that one.
+    pub fn like(self) -> Set {
+        match self.row() {
+            Row::First => Set::I,
+            Row::Second => Set::II,
+            Row::Third => Set::III,
+            Row::Fourth => Set::IV,
+        }
+    }
+
+    /// The row that it shares with the set that it is like.
+    fn row(self) -> Row {
+        match self {
+            Set::I | Set::V => Row::First,
+            Set::II | Set::VI => Row::Second,
+            Set::III | Set::VII => Row::Third,
+            Set::IV | Set::VIII => Row::Fourth,
         }
     }
 
     /// The standard deviation of the masks. No call uses it; the test thresholds and masks do.
     pub fn sigma(self) -> i64 {
-        match self {
-            Set::I => 215,
-            Set::II => 107,
-            Set::III => 250,
-            Set::IV => 271,
-        }
-    }
-
-    /// The challenge size.
-    pub fn kappa(self) -> usize {
-        match self {
-            Set::I | Set::II => 23,
-            Set::III => 30,
-            Set::IV => 39,
+        match self.row() {
+            Row::First => 215,
+            Row::Second => 107,
+            Row::Third => 250,
+            Row::Fourth => 271,
         }
     }
 
     /// The number of dropped binary digits.
     pub fn d(self) -> u32 {
-        match self {
-            Set::I | Set::II => 10,
-            Set::III => 9,
-            Set::IV => 8,
+        match self.row() {
+            Row::First | Row::Second => 10,
+            Row::Third => 9,
+            Row::Fourth => 8,
         }
     }
 
@@ -106,42 +149,73 @@ impl Set {
     }
 
     pub fn largest(self) -> i64 {
-        match self {
-            Set::I => 2100,
-            Set::II => 1563,
-            Set::III => 1760,
-            Set::IV => 1613,
+        match self.row() {
+            Row::First => 2100,
+            Row::Second => 1563,
+            Row::Third => 1760,
+            Row::Fourth => 1613,
         }
     }
 
     /// B2 squared.
     pub fn b2_squared(self) -> i64 {
-        let b2: i64 = match self {
-            Set::I => 12872,
-            Set::II => 11074,
-            Set::III => 10206,
-            Set::IV => 9901,
+        let b2: i64 = match self.row() {
+            Row::First => 12872,
+            Row::Second => 11074,
+            Row::Third => 10206,
+            Row::Fourth => 9901,
         };
         b2 * b2
     }
 
     /// The limit K on a key's squared length.
     pub fn k(self) -> i64 {
-        match self {
-            Set::I | Set::II => 775,
-            Set::III => 1409,
-            Set::IV => 1784,
+        match self.row() {
+            Row::First | Row::Second => 775,
+            Row::Third => 1409,
+            Row::Fourth => 1784,
         }
     }
 
     /// The counts that f and g each have, d1 and d2 of paper 02 (C-12). d itself is another number.
     pub fn key_counts(self) -> KeyCounts {
-        let (ones, twos) = match self {
-            Set::I | Set::II => (154, 0),
-            Set::III => (216, 16),
-            Set::IV => (231, 31),
+        let (ones, twos) = match self.row() {
+            Row::First | Row::Second => (154, 0),
+            Row::Third => (216, 16),
+            Row::Fourth => (231, 31),
         };
         KeyCounts { ones, twos }
+    }
+}
+
+/// A reader of records, by the sets that it knows.
+#[derive(Clone, Copy, Debug)]
+pub struct Edition {
+    sets: &'static [Set],
+}
+
+impl Edition {
+    pub const THIS: Edition = Edition { sets: &Set::ALL };
+    /// The one before the longer challenges.
+    pub const OLDER: Edition = Edition {
+        sets: &[Set::I, Set::II, Set::III, Set::IV],
+    };
+
+    /// The set that a record states, where it is one of these.
+    pub fn stated(self, number: u32) -> Option<Set> {
+        Set::stated(number).filter(|set| self.sets.contains(set))
+    }
+
+    /// The length of its list buffer: the largest kappa.
+    pub const fn list_buffer(self) -> usize {
+        let (mut largest, mut at) = (0, 0);
+        while at < self.sets.len() {
+            if self.sets[at].kappa() > largest {
+                largest = self.sets[at].kappa();
+            }
+            at += 1;
+        }
+        largest
     }
 }
 

@@ -2,7 +2,7 @@
 //! set 1.
 
 use second::parameters::{LIST_BUFFER, N};
-use second::record::total;
+use second::record::LONGEST;
 use second::testing::calls::{run, Answered, Call, Input, OutputLengths, Outputs};
 use second::testing::keys;
 use second::testing::noise::Noise;
@@ -30,7 +30,7 @@ fn signed(set: Set) -> (Input, Signed) {
         z1: signature.z1,
         z2_dagger: signature.z2_dagger,
         record: Vec::new(),
-        lengths: OutputLengths::stated(Set::IV),
+        lengths: OutputLengths::stated(set),
     };
     (input, signed)
 }
@@ -42,7 +42,7 @@ type Written = Vec<Vec<i64>>;
 fn left(call: Call, input: &Input, number: u32) -> (Answered, Written) {
     let (mut rounded, mut rests) = (vec![0xabcd; N], vec![-79; N]);
     let (mut z1, mut z2_dagger) = (vec![-77; N], vec![-78; N]);
-    let (mut list, mut record) = (vec![0xabce; LIST_BUFFER], vec![0xab; total(Set::IV)]);
+    let (mut list, mut record) = (vec![0xabce; LIST_BUFFER], vec![0xab; LONGEST]);
     let outputs = Outputs {
         rounded: &mut rounded,
         rests: &mut rests,
@@ -94,7 +94,8 @@ fn the_old_default_is_one_named_and_any_other_number_itself() {
     for set in Set::ALL {
         let (input, _) = signed(set);
         for (old, call) in OLD_DEFAULT {
-            for (number, named) in [(0, 1), (1, 1), (2, 2), (3, 3), (4, 4), (5, 5)] {
+            for number in 0..=Set::ABOVE {
+                let named = number.max(1);
                 let (kept, plain) = (left(old, &input, number), left(call, &input, named));
                 assert_eq!(kept, plain, "{}, {number}, of {set:?}", old.name());
             }

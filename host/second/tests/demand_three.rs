@@ -72,8 +72,8 @@ fn what_is_given_out_rebuilds_the_commitment() {
 #[test]
 fn it_does_so_for_any_masks_lists_thresholds_and_words() {
     let mut noise = Noise::new(37);
-    let mut given_out = 0;
     for set in Set::ALL {
+        let mut given_out = 0;
         for key in keys_of(set, &mut noise) {
             for deviation in [0.0, 20.0, 150.0, 300.0] {
                 let (mut attempt, _) = Try::new(set, &key, b"", &mut noise);
@@ -91,6 +91,6 @@ fn it_does_so_for_any_masks_lists_thresholds_and_words() {
                 }
             }
         }
+        assert!(given_out > 20, "{set:?}: only {given_out} of 40");
     }
-    assert!(given_out > 60, "only {given_out} of 160 were given out");
 }

@@ -1,8 +1,9 @@
 //! The program `bursztok-second`: what it writes and prints is what the calls make.
 
 use second::parameters::N;
+use second::record::total;
 use second::testing::hash::list_of;
-use second::{commitment, key_test, respond, Set};
+use second::{commitment, key_test, respond, write, Set};
 use shell::numbers::{joined, numbers_of, text_of, Number};
 use std::io::Write;
 use std::path::PathBuf;
@@ -141,14 +142,44 @@ fn the_hash_is_the_same_from_files_and_from_the_stream() {
 }
 
 #[test]
+fn a_record_is_read_and_a_new_one_refused_by_the_older_reader() {
+    let folder = Folder::new("read");
+    let path = folder.path("record");
+    let answers = |subcommand: &str, status: i32, said: &str| {
+        let output = run(&[subcommand, &path], b"");
+        assert_eq!(output.status.code(), Some(status));
+        let told = String::from_utf8(output.stdout).unwrap();
+        assert_eq!(told, format!("{said}\n"));
+    };
+    for set in Set::ALL {
+        let (number, list) = (set.number(), (0..set.kappa() as u16).collect::<Vec<_>>());
+        let mut record = vec![0; total(set)];
+        write(number, &[0; N], &[0; N], &list, &mut record).unwrap();
+        std::fs::write(&path, &record).unwrap();
+        let done = format!("number 0, place 0, set {number}");
+        answers("read", 0, &done);
+        if set.like() == set {
+            answers("read-older", 0, &done);
+        } else {
+            answers("read-older", 1, "number 13, place 4, set 0");
+        }
+    }
+    std::fs::write(&path, b"BLB").unwrap();
+    answers("read", 1, "number 13, place 3, set 0");
+}
+
+#[test]
 fn bad_usage_is_told() {
     refused(&[], b"", "a subcommand is missing");
     refused(&["tri"], b"", "'tri' is no subcommand");
     refused(&["try", "1", "2", "3"], b"", "try: FOLDER is missing");
-    refused(&["header", "5", "1"], b"", "'5' is not a set from 1 to 4");
+    refused(&["header", "9", "1"], b"", "'9' is not a set from 1 to 8");
     refused(&["header", "1", "x"], b"", "the seed 'x'");
     refused(&["header", "1", "1", "1"], b"", "'1' is one word too many");
     refused(&["header", "--set", "1"], b"", "'--set' is no option");
     refused(&["hash", "1", "2"], b"", "hash: MESSAGE is missing");
-    assert!(done(&["--help"], b"").contains("bursztok-second try SET"));
+    refused(&["read-older"], b"", "read-older: RECORD is missing");
+    let help = done(&["--help"], b"");
+    assert!(help.contains("bursztok-second try SET"));
+    assert!(help.contains(&format!("SET is 1 to {}, or 0 for set 4.", Set::ALL.len())));
 }

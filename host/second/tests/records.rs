@@ -73,7 +73,7 @@ fn what_reads_is_what_the_writer_makes_of_it() {
     let mut noise = Noise::new(42);
     let mut reads = 0;
     for round in 0..400 {
-        let set = Set::ALL[round % 4];
+        let set = Set::ALL[round % Set::ALL.len()];
         let mut record = record(set, &mut noise);
         for _ in 0..noise.between(1, 2) {
             let at = noise.below(record.len());
@@ -98,7 +98,7 @@ fn what_reads_is_what_the_writer_makes_of_it() {
 fn set_zero_is_written_as_set_four() {
     let mut noise = Noise::new(43);
     let (z1, z2_dagger, list) = signature(Set::IV, &mut noise);
-    let (mut zero, mut four) = (vec![0; 1638], vec![0; 1638]);
+    let (mut zero, mut four) = (vec![0; total(Set::IV)], vec![0; total(Set::IV)]);
     write(0, &z1, &z2_dagger, &list, &mut zero).unwrap();
     write(4, &z1, &z2_dagger, &list, &mut four).unwrap();
     assert_eq!(zero, four);
@@ -157,16 +157,20 @@ fn the_slice_is_exactly_the_total() {
 fn the_set_decides_count_and_limits() {
     let mut noise = Noise::new(46);
     let mut changed = record(Set::I, &mut noise);
-    changed[4] = 3;
-    assert_eq!(verdict(&changed), Err(Refusal::header(14)));
-    // Sets 1 and 2 share every header field; the limits differ.
-    let list: Vec<u16> = (0..23).collect();
-    let (mut z1, mut record) = (vec![0; N], vec![0; 1606]);
-    z1[9] = 1564;
-    write(1, &z1, &[0; N], &list, &mut record).unwrap();
-    assert_eq!(verdict(&record), Ok(()));
-    record[4] = 2;
-    assert_eq!(verdict(&record), Err(Refusal::entry(9)));
+    for other in [3, 5] {
+        changed[4] = other;
+        assert_eq!(verdict(&changed), Err(Refusal::header(14)));
+    }
+    // Sets 1 and 2 share every header field, and so do 5 and 6; the limits differ.
+    for (set, other) in [(Set::I, 2), (Set::V, 6)] {
+        let list: Vec<u16> = (0..set.kappa() as u16).collect();
+        let (mut z1, mut record) = (vec![0; N], vec![0; total(set)]);
+        z1[9] = 1564;
+        write(set.number(), &z1, &[0; N], &list, &mut record).unwrap();
+        assert_eq!(verdict(&record), Ok(()));
+        record[4] = other;
+        assert_eq!(verdict(&record), Err(Refusal::entry(9)));
+    }
 }
 
 #[test]

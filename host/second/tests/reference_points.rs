@@ -4,8 +4,8 @@
 use second::commitment::{doubled_zeta_times, sums};
 use second::draw::draw;
 use second::key::{s1, s2};
-use second::parameters::{KeyCounts, N};
-use second::record::total;
+use second::parameters::{KeyCounts, LIST_BUFFER, N};
+use second::record::{total, LONGEST};
 use second::response::{dropped_digits, shifted, sign_choices, trials};
 use second::ring::{centred, modulo_2q, rest, squared_length, upper_digits, Whole};
 use second::testing::keys;
@@ -15,42 +15,45 @@ use second::{
 
 #[test]
 fn the_table_of_parameters() {
+    assert_eq!(Set::ALL.map(Set::number), [1, 2, 3, 4, 5, 6, 7, 8]);
+    assert_eq!(Set::ALL.map(Set::kappa), [23, 23, 30, 39, 58, 58, 82, 113]);
+    assert_eq!(LIST_BUFFER, 113);
+    let totals = [1606, 1606, 1620, 1638, 1676, 1676, 1724, 1786];
+    assert_eq!(Set::ALL.map(total), totals);
+    assert_eq!(LONGEST, 1786);
     let rows = Set::ALL.map(|set| {
+        let KeyCounts { ones, twos } = set.key_counts();
         (
-            set.number(),
             set.sigma(),
-            set.kappa(),
             set.d(),
             set.p(),
             set.largest(),
             set.b2_squared(),
             set.k(),
+            (ones, twos),
         )
     });
     let table = [
-        (1, 215, 23, 10, 24, 2100, 165_688_384, 775),
-        (2, 107, 23, 10, 24, 1563, 122_633_476, 775),
-        (3, 250, 30, 9, 48, 1760, 104_162_436, 1409),
-        (4, 271, 39, 8, 96, 1613, 98_029_801, 1784),
+        (215, 10, 24, 2100, 165_688_384, 775, (154, 0)),
+        (107, 10, 24, 1563, 122_633_476, 775, (154, 0)),
+        (250, 9, 48, 1760, 104_162_436, 1409, (216, 16)),
+        (271, 8, 96, 1613, 98_029_801, 1784, (231, 31)),
     ];
-    assert_eq!(rows, table);
-    assert_eq!(Set::ALL.map(total), [1606, 1606, 1620, 1638]);
-    let counts = Set::ALL.map(|set| {
-        let KeyCounts { ones, twos } = set.key_counts();
-        (ones, twos)
-    });
-    assert_eq!(counts, [(154, 0), (154, 0), (216, 16), (231, 31)]);
+    // Sets 5 to 8 have otherwise the numbers of sets 1 to 4.
+    assert_eq!(rows, *[table; 2].as_flattened());
+    let like = [Set::I, Set::II, Set::III, Set::IV];
+    assert_eq!(Set::ALL.map(Set::like), *[like; 2].as_flattened());
 }
 
 #[test]
-fn zero_asks_for_set_four_or_by_the_old_default_for_set_one_and_five_for_none() {
+fn zero_asks_for_set_four_or_by_the_old_default_for_set_one_and_nine_for_none() {
     assert_eq!(Set::asked(0), Ok(Set::IV));
     assert_eq!(Set::asked_default_one(0), Ok(Set::I));
     for asked in [Set::asked, Set::asked_default_one] {
         for set in Set::ALL {
             assert_eq!(asked(set.number()), Ok(set));
         }
-        assert_eq!(asked(5), Err(Refusal::SET));
+        assert_eq!(asked(9), Err(Refusal::SET));
         assert_eq!(asked(u32::MAX), Err(Refusal::SET));
     }
     // A record states its set: 0 is none there.
@@ -229,7 +232,7 @@ fn entries_at_and_beyond_largest() {
         z1[5] = z1_entry;
         z2_dagger[7] = z2_entry;
         let list: Vec<u16> = (0..set.kappa() as u16).collect();
-        let (mut rebuilt, mut record) = (vec![0; N], vec![0; 1638]);
+        let (mut rebuilt, mut record) = (vec![0; N], vec![0; LONGEST]);
         let rebuilding = rebuild(set.number(), &[0; N], &z1, &z2_dagger, &list, &mut rebuilt);
         let writing = write(set.number(), &z1, &z2_dagger, &list, &mut record);
         assert_eq!(rebuilding, writing);

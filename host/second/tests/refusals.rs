@@ -124,7 +124,7 @@ fn with_key(input: &Input, key: &Key) -> Input {
 fn key_test_order() {
     for set in Set::ALL {
         let order: Faults = &[
-            (Refusal::SET, &|input| input.set = 5),
+            (Refusal::SET, &|input| input.set = Set::ABOVE),
             (Refusal::LENGTH, &|input| input.g.push(0)),
             (Refusal::COEFFICIENT, &|input| input.a[511] = 12289),
             (Refusal::COUNTS, &fill_g),
@@ -155,7 +155,8 @@ fn each_vector_of_the_key_is_tested() {
 #[test]
 fn every_edge_of_the_counts_is_refused() {
     let mut noise = Noise::new(53);
-    for (set, count) in Set::ALL.into_iter().zip([13, 13, 21, 21]) {
+    let counts = [13, 13, 21, 21].into_iter().cycle();
+    for (set, count) in Set::ALL.into_iter().zip(counts) {
         let right = right_input(set, 53);
         let key = keys::published(set, &mut noise);
         let edges = Edge::all(set);
@@ -213,7 +214,7 @@ fn commitment_order() {
 fn commitment_with_rests_order() {
     for set in Set::ALL {
         let order: Faults = &[
-            (Refusal::SET, &|input| input.set = 5),
+            (Refusal::SET, &|input| input.set = Set::ABOVE),
             (Refusal::LENGTH, &|input| input.lengths.rests = 511),
             (Refusal::COEFFICIENT, &|input| input.a[0] = 12289),
             (Refusal::MASK, &|input| input.y2[511] = -4097),
@@ -274,7 +275,7 @@ fn response_order() {
         // A walk that any words pass: the refusals of the length rule come after it.
         right.thresholds.fill(u64::MAX);
         let order: Faults = &[
-            (Refusal::SET, &|input| input.set = 5),
+            (Refusal::SET, &|input| input.set = Set::ABOVE),
             (Refusal::LENGTH, &|input| input.thresholds.push(0)),
             (Refusal::COEFFICIENT, &|input| input.f[100] = 3),
             (Refusal::MASK, &|input| input.y1[0] = 4097),
@@ -335,7 +336,7 @@ fn the_count_stands_beside_refusals_after_the_walk() {
     let answered = answer(Call::Respond, &input);
     assert_eq!((answered.number, answered.place), (10, 200));
     assert!(answered.words > 0);
-    input.set = 5;
+    input.set = Set::ABOVE;
     let answered = answer(Call::Respond, &input);
     assert_eq!((answered.number, answered.words), (1, 0));
 }
@@ -344,7 +345,7 @@ fn the_count_stands_beside_refusals_after_the_walk() {
 fn rebuild_order() {
     for set in Set::ALL {
         let order: Faults = &[
-            (Refusal::SET, &|input| input.set = 5),
+            (Refusal::SET, &|input| input.set = Set::ABOVE),
             (Refusal::LENGTH, &|input| input.lengths.rounded = 513),
             (Refusal::COEFFICIENT, &|input| input.a[0] = 12289),
             (Refusal::LIST, &|input| {
@@ -368,12 +369,12 @@ fn comparison_order() {
             input.hashed = (0..kappa).collect();
         };
         let claimed: Faults = &[
-            (Refusal::SET, &|input| input.set = 5),
+            (Refusal::SET, &|input| input.set = Set::ABOVE),
             (Refusal::LIST, &|input| input.list.push(511)),
             (Refusal::LISTS_DIFFER, &differ),
         ];
         let hashed: Faults = &[
-            (Refusal::SET, &|input| input.set = 5),
+            (Refusal::SET, &|input| input.set = Set::ABOVE),
             (Refusal::LIST, &|input| input.hashed.reverse()),
             (Refusal::LISTS_DIFFER, &differ),
         ];
@@ -408,7 +409,7 @@ fn the_form_of_a_list() {
 fn writer_order() {
     for set in Set::ALL {
         let order: Faults = &[
-            (Refusal::SET, &|input| input.set = 5),
+            (Refusal::SET, &|input| input.set = Set::ABOVE),
             (Refusal::LENGTH, &|input| input.z2_dagger.truncate(511)),
             (Refusal::LIST, &|input| input.list[0] = 512),
             (Refusal::entry(0), &|input| input.z1[0] = -2101),
@@ -427,10 +428,12 @@ fn reader_order() {
     }
     for set in Set::ALL {
         let order: Faults = &[
-            (Refusal::LENGTH, &|input| input.lengths.list = 38),
+            (Refusal::LENGTH, &|input| input.lengths.list -= 1),
             (Refusal::header(3), &|input| input.record.truncate(3)),
             (Refusal::header(0), &|input| input.record[3] = b'2'),
-            (Refusal::header(4), &|input| input.record[4] = 5),
+            (Refusal::header(4), &|input| {
+                input.record[4] = Set::ABOVE as u8
+            }),
             (Refusal::header(20), &|input| input.record[23] = 1),
             (Refusal::LIST, &|input| put(input, 1560, 512)),
             (Refusal::entry(511), &|input| put(input, 24 + 1022, 2101)),
@@ -442,5 +445,18 @@ fn reader_order() {
             }),
         ];
         require_order(Call::Read, &right_input(set, 62), order);
+    }
+}
+
+#[test]
+fn the_readers_list_buffer_is_of_its_length() {
+    for set in Set::ALL {
+        let mut input = right_input(set, 67);
+        // The set's own kappa and the largest of before among them.
+        for length in [0, set.kappa(), 39, 112, 113, 114] {
+            input.lengths.list = length;
+            let wanted = if length == 113 { (0, 0) } else { (2, 0) };
+            assert_eq!(refusal(Call::Read, &input), wanted, "{set:?}, {length}");
+        }
     }
 }

@@ -5,7 +5,7 @@
 //! All numbers have the low byte first; signed ones are two's complement.
 //!
 //! ```text
-//! bytes 0-7    the letters BLVECT02
+//! bytes 0-7    the letters BLVECT03
 //! bytes 8-11   the number of entries
 //! bytes 12-15  the number of entries that are calls
 //! then the entries, one after the other, to the end of the file
@@ -13,7 +13,7 @@
 //!
 //! A replay holds eighteen slots, each an array and a length. At the start all entries of all
 //! arrays are zero and all lengths are 0. An entry of the file is a head of eight bytes and then
-//! `count` elements of `width` bytes (at most 1,700 bytes in all):
+//! `count` elements of `width` bytes (at most 1,800 bytes in all):
 //!
 //! ```text
 //! 0    what: 1 load, 2 patch, 3 call
@@ -33,17 +33,17 @@
 //! | 1, 2 | f, g | i8 | 520 |
 //! | 3 | a | u16 | 520 |
 //! | 4, 5 | y1, y2 | i16 | 520 |
-//! | 6, 7 | list, hashed list | u16 | 64 |
+//! | 6, 7 | list, hashed list | u16 | 128 |
 //! | 8 | thresholds | u64 | 40 |
 //! | 9 | words | u64 | 64 |
 //! | 10 | z1 | i16 | 520 |
 //! | 11 | z2 dagger | i8 | 520 |
-//! | 12 | record | u8 | 1700 |
+//! | 12 | record | u8 | 1800 |
 //! | 13 | wanted: the rounded output | u16 | 520 |
 //! | 14 | wanted: the z1 output | i16 | 520 |
 //! | 15 | wanted: the z2 dagger output | i8 | 520 |
-//! | 16 | wanted: the list output | u16 | 64 |
-//! | 17 | wanted: the record output | u8 | 1700 |
+//! | 16 | wanted: the list output | u16 | 128 |
+//! | 17 | wanted: the record output | u8 | 1800 |
 //! | 18 | wanted: the rests output | i16 | 520 |
 //!
 //! Calls are 1 key test (f, g, a), 2 commitment (a, y1, y2), 3 response (f, g, a, y1, y2, list,
@@ -81,7 +81,7 @@ pub mod replay;
 pub mod slots;
 
 /// The letters that a file of vectors starts with.
-pub const LETTERS: &[u8; 8] = b"BLVECT02";
+pub const LETTERS: &[u8; 8] = b"BLVECT03";
 
 pub use cases::vectors;
 pub use replay::{replay, Fault};

@@ -43,7 +43,8 @@ impl fmt::Display for Fault {
 pub fn replay(file: &[u8]) -> Result<Counts, Fault> {
     let mut rest = file;
     if take(&mut rest, 8)? != LETTERS {
-        return Err(Fault::malformed("the letters are not BLVECT02"));
+        let letters = LETTERS.escape_ascii();
+        return Err(Fault::Malformed(format!("the letters are not {letters}")));
     }
     let entries = number(take(&mut rest, 4)?);
     let calls = number(take(&mut rest, 4)?);

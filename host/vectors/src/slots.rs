@@ -102,29 +102,32 @@ pub const WANTED_LIST: usize = 16;
 pub const WANTED_RECORD: usize = 17;
 pub const WANTED_RESTS: usize = 18;
 
+const VECTOR_ROOM: usize = 520;
+const LIST_ROOM: usize = 128;
+const RECORD_ROOM: usize = 1800;
 /// Room for the walks that are recorded.
 pub const WORDS_ROOM: usize = 64;
 
 /// Width and room of slots 1 to 18.
 const ROOMS: [(usize, usize); 18] = [
-    (1, 520),
-    (1, 520),
-    (2, 520),
-    (2, 520),
-    (2, 520),
-    (2, 64),
-    (2, 64),
+    (1, VECTOR_ROOM),
+    (1, VECTOR_ROOM),
+    (2, VECTOR_ROOM),
+    (2, VECTOR_ROOM),
+    (2, VECTOR_ROOM),
+    (2, LIST_ROOM),
+    (2, LIST_ROOM),
     (8, 40),
     (8, WORDS_ROOM),
-    (2, 520),
-    (1, 520),
-    (1, 1700),
-    (2, 520),
-    (2, 520),
-    (1, 520),
-    (2, 64),
-    (1, 1700),
-    (2, 520),
+    (2, VECTOR_ROOM),
+    (1, VECTOR_ROOM),
+    (1, RECORD_ROOM),
+    (2, VECTOR_ROOM),
+    (2, VECTOR_ROOM),
+    (1, VECTOR_ROOM),
+    (2, LIST_ROOM),
+    (1, RECORD_ROOM),
+    (2, VECTOR_ROOM),
 ];
 
 /// What a call takes beside the slots.

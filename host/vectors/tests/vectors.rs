@@ -1,6 +1,7 @@
 //! The file is small, says the same at each making, replays, and notices damage.
 
 use second::testing::calls::Call;
+use second::Set;
 use std::collections::BTreeSet;
 use std::process::Command;
 use vectors::{replay, vectors, Fault};
@@ -8,7 +9,7 @@ use vectors::{replay, vectors, Fault};
 #[test]
 fn the_file_replays_and_reaches_every_number_that_can_occur() {
     let file = vectors(1);
-    assert!(file.len() < 640 * 1024, "{} bytes", file.len());
+    assert!(file.len() < 1024 * 1024, "{} bytes", file.len());
     assert_eq!(file, vectors(1));
     let counts = replay(&file).unwrap();
     for call in Call::ALL.into_iter().filter(|call| call.has_number()) {
@@ -19,15 +20,39 @@ fn the_file_replays_and_reaches_every_number_that_can_occur() {
     }
 }
 
+/// The entries of a file, each with the place where it stands.
+fn entries(file: &[u8]) -> Vec<(usize, &[u8])> {
+    let (mut at, mut entries) = (16, Vec::new());
+    while at < file.len() {
+        let count = usize::from(u16::from_le_bytes([file[at + 6], file[at + 7]]));
+        let length = 8 + count * usize::from(file[at + 2]);
+        entries.push((at, &file[at..at + length]));
+        at += length;
+    }
+    entries
+}
+
 /// Where the first entry stands that starts with these bytes and has elements.
 fn find(file: &[u8], start: [u8; 2]) -> usize {
-    let mut at = 16;
-    loop {
-        let count = usize::from(u16::from_le_bytes([file[at + 6], file[at + 7]]));
-        if file[at..at + 2] == start && count > 0 {
-            return at;
+    let entries = entries(file).into_iter();
+    let mut found = entries.filter(|(_, entry)| entry[..2] == start && entry.len() > 8);
+    found.next().expect("there is such an entry").0
+}
+
+#[test]
+fn every_call_is_done_for_every_set() {
+    let file = vectors(1);
+    // The call and the set that it is asked for, where the wanted number is 0.
+    let done: BTreeSet<(u8, u8)> = entries(&file)
+        .into_iter()
+        .filter(|(_, entry)| entry[0] == 3 && entry[8 + 4] == 0)
+        .map(|(_, entry)| (entry[1], entry[8]))
+        .collect();
+    for call in Call::ALL.into_iter().filter(|call| call.has_number()) {
+        for set in Set::ALL {
+            let wanted = (call as u8, set.number() as u8);
+            assert!(done.contains(&wanted), "{}, {set:?}", call.name());
         }
-        at += 8 + count * usize::from(file[at + 2]);
     }
 }
 
@@ -50,7 +75,7 @@ fn damage_is_noticed() {
     differs(find(&file, [1, 13]) + 8, "Commitment: slot 13");
     differs(find(&file, [3, 2]) + 8 + 4, "Commitment");
     differs(find(&file, [1, 18]) + 8, "CommitmentWithRests: slot 18");
-    assert!(damaged(0).to_string().contains("BLVECT02"));
+    assert!(damaged(0).to_string().contains("BLVECT03"));
     assert!(replay(&file[..file.len() - 1]).is_err());
     let longer = [&file[..], &[0]].concat();
     assert!(replay(&longer).is_err());
@@ -60,7 +85,7 @@ fn damage_is_noticed() {
 fn file_of(entries: &[Vec<u8>]) -> Vec<u8> {
     let calls = entries.iter().filter(|entry| entry[0] == 3).count();
     let counts = [entries.len() as u32, calls as u32].map(u32::to_le_bytes);
-    [b"BLVECT02", counts.as_flattened(), &entries.concat()].concat()
+    [b"BLVECT03", counts.as_flattened(), &entries.concat()].concat()
 }
 
 /// A call of set 1 with this wanted number.

@@ -4,10 +4,10 @@ use Rattle.records_run.proofs.from_nothing.Statement.{statement}
 use Rattle.records_run.proofs.from_nothing.Tie as tie
 
 abbrev Inv-loop : tie.InvT-loop
-Inv-loop rec last₀ n₀ last n = n ≤ 1701
+Inv-loop rec last₀ n₀ last n = n ≤ 1801
 
 abbrev μ-loop : tie.MeasureT-loop
-μ-loop rec last₀ n₀ last n = 1701 - n
+μ-loop rec last₀ n₀ last n = 1801 - n
 
 loop-holds : tie.Need-loop-holds Inv-loop μ-loop
 loop-holds c = search needs

@@ -7,9 +7,10 @@ use second::parameters::{LIST_BUFFER, N};
 use second::testing::calls::Call::{CommitmentWithRests, Read, Respond};
 use second::testing::calls::Input;
 use second::testing::noise::Noise;
+use second::{Edition, Set};
 
 pub const FAULTS: &[Fault] = &[
-    fault("set above 4", WITH_SET, set_above_four),
+    fault("number above the sets", WITH_SET, number_above),
     fault("another set", WITH_SET, another_set),
     fault("length of f", WITH_KEY, |input, noise| {
         resize(&mut input.f, noise)
@@ -58,15 +59,19 @@ pub const FAULTS: &[Fault] = &[
     fault("length of the list output", &[Read], |input, noise| {
         input.lengths.list = other_length(LIST_BUFFER, noise)
     }),
+    fault("list output of an older reader", &[Read], |input, _| {
+        input.lengths.list = Edition::OLDER.list_buffer()
+    }),
 ];
 
-fn set_above_four(input: &mut Input, noise: &mut Noise) {
-    input.set = noise.one_of(&[5, 6, 8, 255, 256, 257, 65_536, 1 << 31, u32::MAX]);
+fn number_above(input: &mut Input, noise: &mut Noise) {
+    let above = [Set::ABOVE, 16, 255, 256, 257, 65_536, 1 << 31, u32::MAX];
+    input.set = noise.one_of(&above);
 }
 
 /// Another set with the same vectors: their count and limits may no longer fit.
 fn another_set(input: &mut Input, noise: &mut Noise) {
-    input.set = noise.below(5) as u32;
+    input.set = noise.below(Set::ABOVE as usize) as u32;
 }
 
 fn other_length(right: usize, noise: &mut Noise) -> usize {

@@ -1,6 +1,7 @@
 //! Lists: refusals 5 and 12.
 
 use super::{fault, place_in, set_of, Fault, WITH_HASHED, WITH_LIST};
+use second::parameters::LIST_BUFFER;
 use second::testing::calls::Input;
 use second::testing::noise::Noise;
 
@@ -28,7 +29,7 @@ fn recount(list: &mut Vec<u16>, noise: &mut Noise) {
         }
         2 => list.push(511),
         _ => {
-            let count = noise.below(45);
+            let count = noise.below(LIST_BUFFER + 6);
             *list = (0..count as u16).collect();
         }
     }

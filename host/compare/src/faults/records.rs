@@ -3,9 +3,11 @@
 use super::lists::deform;
 use super::{fault, Fault, WITH_RECORD};
 use second::parameters::N;
+use second::record::LONGEST;
 use second::testing::calls::Call::Write;
 use second::testing::calls::Input;
 use second::testing::noise::Noise;
+use second::Set;
 
 pub const FAULTS: &[Fault] = &[
     fault("short output for the record", &[Write], short_record_output),
@@ -44,12 +46,12 @@ fn header_byte(input: &mut Input, noise: &mut Noise) {
 
 fn set_byte(input: &mut Input, noise: &mut Noise) {
     if let Some(byte) = input.record.get_mut(4) {
-        *byte = noise.below(7) as u8;
+        *byte = noise.below(Set::ABOVE as usize + 2) as u8;
     }
 }
 
 fn record_length(input: &mut Input, noise: &mut Noise) {
-    let length = noise.below(1700);
+    let length = noise.below(LONGEST + 62);
     input.record.resize(length, 0);
 }
 
@@ -105,7 +107,7 @@ fn any_record_byte(input: &mut Input, noise: &mut Noise) {
 }
 
 fn record_of_noise(input: &mut Input, noise: &mut Noise) {
-    let length = noise.below(1700);
+    let length = noise.below(LONGEST + 62);
     input.record = (0..length).map(|_| noise.word() as u8).collect();
 }
 

@@ -32,10 +32,12 @@ pub enum Wrong {
     Size,
     /// A number that is no set has a size.
     NoSet,
-    /// 0 is no set.
-    NoDefault,
-    /// 0 stands for this set.
-    Default(u32),
+    /// A number stands for another set, or for none.
+    Stands(u32, Option<u32>),
+    /// A record that states this set is refused at byte 4.
+    Unread(u32),
+    /// The reader takes the list buffer of an older one.
+    OlderList,
     /// One entry of what is written is off by one.
     Entry(Buffer),
     /// One entry is written on a refusal.
@@ -143,6 +145,16 @@ impl Planted {
     }
 }
 
+impl Wrong {
+    /// The number of a set that is wrong alone.
+    pub fn number(self) -> Option<u32> {
+        match self {
+            Wrong::Stands(number, _) | Wrong::Unread(number) => Some(number),
+            _ => None,
+        }
+    }
+}
+
 impl fmt::Display for Wrong {
     fn fmt(&self, out: &mut fmt::Formatter<'_>) -> fmt::Result {
         match self {
@@ -154,8 +166,10 @@ impl fmt::Display for Wrong {
             Wrong::Length => write!(out, "length of the part off by one"),
             Wrong::Size => write!(out, "off by one"),
             Wrong::NoSet => write!(out, "told for a number that is no set"),
-            Wrong::NoDefault => write!(out, "not told for 0"),
-            Wrong::Default(set) => write!(out, "0 stands for set {set}"),
+            Wrong::Stands(number, Some(set)) => write!(out, "{number} stands for set {set}"),
+            Wrong::Stands(number, None) => write!(out, "{number} stands for no set"),
+            Wrong::Unread(set) => write!(out, "a record of set {set} refused at byte 4"),
+            Wrong::OlderList => write!(out, "a list buffer of an older reader taken"),
             Wrong::Entry(buffer) => write!(out, "an entry of {buffer} off"),
             Wrong::Refused(buffer) => write!(out, "an entry of {buffer} written on a refusal"),
             Wrong::Tail(buffer) => write!(out, "the tail of {buffer} written"),
@@ -192,21 +206,35 @@ fn written(call: Call) -> &'static [Buffer] {
     }
 }
 
+/// What can be wrong with the set that a call is asked for, or that a record states. A set is taken
+/// for the one that it is like where that makes a difference: where kappa counts.
+fn wrong_sets(call: Call) -> Vec<Wrong> {
+    let longer = Set::ALL.into_iter().filter(|set| set.like() != *set);
+    if !call.takes_set() {
+        return longer.map(|set| Wrong::Unread(set.number())).collect();
+    }
+    // The other default of the two.
+    let old = call.asked(0) == Ok(Set::I);
+    let mut wrongs = vec![
+        Wrong::Stands(0, None),
+        Wrong::Stands(0, Some(if old { 4 } else { 1 })),
+    ];
+    for set in longer {
+        wrongs.push(Wrong::Stands(set.number(), None));
+        if !matches!(call, KeyTest | Commitment | CommitmentWithRests) {
+            let like = set.like().number();
+            wrongs.push(Wrong::Stands(set.number(), Some(like)));
+        }
+    }
+    wrongs
+}
+
 /// What can be wrong with a call.
 fn wrongs(call: Call) -> Vec<Wrong> {
+    let mut wrongs = wrong_sets(call);
     if !call.has_number() {
-        return vec![
-            Wrong::Size,
-            Wrong::NoSet,
-            Wrong::NoDefault,
-            Wrong::Default(1),
-        ];
-    }
-    let mut wrongs = Vec::new();
-    if call.takes_set() {
-        // The other default of the two.
-        let old = call.asked(0) == Ok(Set::I);
-        wrongs.push(Wrong::Default(if old { 4 } else { 1 }));
+        wrongs.extend([Wrong::Size, Wrong::NoSet]);
+        return wrongs;
     }
     for &number in call.numbers() {
         if number != 0 {
@@ -216,7 +244,7 @@ fn wrongs(call: Call) -> Vec<Wrong> {
     wrongs.push(Wrong::Place);
     match call {
         Respond => wrongs.extend([0, 15, 8, 9, 10, 11].map(Wrong::Words)),
-        Read => wrongs.extend([Wrong::Set, Wrong::Tail(List)]),
+        Read => wrongs.extend([Wrong::Set, Wrong::Tail(List), Wrong::OlderList]),
         Write => wrongs.push(Wrong::Tail(Record)),
         Z1Section | Z2Section | ListSection => wrongs.extend([Wrong::Start, Wrong::Length]),
         _ => {}

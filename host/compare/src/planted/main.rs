@@ -102,7 +102,7 @@ fn compare_with(name: &str, words: &[String]) -> ExitCode {
 
 /// Whether the fault is caught, by a case that passes without it.
 fn try_fault(plan: &mut Plan, fault: &Planted) -> bool {
-    for number in plan.about(fault.call) {
+    for number in plan.about(fault.call, fault.wrong.number()) {
         plant(Some(*fault));
         let found = run_case(plan, number);
         plant(None);
@@ -131,7 +131,7 @@ fn try_unreached(plan: &mut Plan) -> bool {
     let mut noticed = true;
     for left_out in Call::ALL {
         let others = Call::ALL.into_iter().filter(|&call| call != left_out);
-        let numbers = others.flat_map(|call| plan.about(call).into_iter().take(3));
+        let numbers = others.flat_map(|call| plan.about(call, None).into_iter().take(3));
         let numbers: Vec<u64> = numbers.collect();
         let verdict = run(plan, numbers.into_iter(), |_, _, _| {}).verdict();
         let name = left_out.name();

@@ -5,8 +5,9 @@ use crate::faults::{wrong_with, Buffer, Wrong};
 use bursztok::foreign::{Answer, Part, Reading, Response};
 use second::answers::number_and_place;
 use second::key::{counts_of, require_counts, require_key_length, require_relation};
+use second::parameters::N;
 use second::testing::calls::Call;
-use second::{Refusal, Set};
+use second::{Edition, Refusal, Set};
 use std::slice::from_raw_parts;
 
 /// A number with a lowest digit that can be turned.
@@ -55,6 +56,11 @@ impl Answered {
         if self.is(Wrong::Place) && (placed(self.number) || !has_places && self.number != 0) {
             *place += 1;
         }
+    }
+
+    /// Whether the call is done with a record of a set that the library does not know.
+    fn is_unread(self, record: &[u8]) -> bool {
+        self.number == 0 && self.is(Wrong::Unread(record[4].into()))
     }
 
     /// The number of a library with the wrong rule on counts, or with the rule at the wrong place of
@@ -109,10 +115,10 @@ fn has_tail(buffer: Buffer, length: usize) -> bool {
     buffer == Buffer::List || length > bursztok::RECORD
 }
 
-/// The set that a library whose call has the wrong default is asked for with this number.
+/// The number that a library is asked with where this one stands for another set, or for none.
 fn asked(call: Call, set: u32) -> u32 {
     match wrong_with(call) {
-        Some(Wrong::Default(other)) if set == 0 => other,
+        Some(Wrong::Stands(number, other)) if number == set => other.unwrap_or(Set::ABOVE),
         _ => set,
     }
 }
@@ -249,6 +255,13 @@ wrapped!(
         if answered.is(Wrong::Set) && answered.number == 0 {
             found.set += 1;
         }
+        if answered.is_unread(from_raw_parts(record, record_len)) {
+            (found.number, found.place, found.set) = (13, 4, 0);
+        }
+        let older = [z1_len, z2_len, list_len] == [N, N, Edition::OLDER.list_buffer()];
+        if answered.is(Wrong::OlderList) && answered.number == 2 && older {
+            found.number = 0;
+        }
         answered.spoil_buffer(Buffer::Z1, z1, z1_len);
         answered.spoil_buffer(Buffer::Z2, z2, z2_len);
         answered.spoil_buffer(Buffer::List, list, list_len);
@@ -270,6 +283,13 @@ unsafe fn section(
     let (number, place) = unsafe { (&mut *number, &mut *place) };
     let answered = Answered::new(call, *number);
     answered.spoil_answer(number, place);
+    if answered.is_unread(unsafe { from_raw_parts(record, record_len) }) {
+        (*number, *place) = (13, 4);
+        return Part {
+            start: 0,
+            length: 0,
+        };
+    }
     if answered.number == 0 {
         // The part stays within the record.
         part.start -= u64::from(answered.is(Wrong::Start));
@@ -328,7 +348,6 @@ macro_rules! wrapped_size {
             match wrong_with(Call::$call) {
                 Some(Wrong::Size) if size != 0 => size + 1,
                 Some(Wrong::NoSet) if size == 0 => 1,
-                Some(Wrong::NoDefault) if set == 0 => 0,
                 _ => size,
             }
         }

@@ -5,6 +5,7 @@ use super::{asked, Recording};
 use crate::slots::Asked;
 use second::testing::calls::Call;
 use second::testing::sheet::Try;
+use second::Set;
 
 impl Recording<'_> {
     /// The sheet that is loaded with 0 on every call that takes a set; and with each number that is
@@ -17,8 +18,8 @@ impl Recording<'_> {
             }
         }
         for call in REBUILDING.into_iter().chain(COMPARING) {
-            for set in 1..=4 {
-                self.recorder.call(call, asked(set));
+            for set in Set::ALL {
+                self.recorder.call(call, asked(set.number()));
             }
         }
     }

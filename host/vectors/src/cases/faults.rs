@@ -5,6 +5,7 @@ use crate::recorder::Recorder;
 use crate::slots::{Asked, Z1, Z2_DAGGER};
 use second::testing::boundary::largest_z2_dagger;
 use second::testing::calls::{Call, OutputLengths};
+use second::Set;
 
 /// One of the lengths of a call's outputs.
 pub(super) type Length = fn(&mut OutputLengths) -> &mut usize;
@@ -15,9 +16,9 @@ pub(super) const Z1_OUTPUT: Length = |lengths| &mut lengths.z1;
 pub(super) const Z2_OUTPUT: Length = |lengths| &mut lengths.z2_dagger;
 
 impl Recording<'_> {
-    /// A call with a set above 4, and with each of these slots one short and one long.
+    /// A call with a number above the sets, and with each of these slots one short and one long.
     pub(super) fn sets_and_lengths(&mut self, call: Call, asked: Asked, slots: &[(usize, usize)]) {
-        for set in [5, u32::MAX] {
+        for set in [Set::ABOVE, u32::MAX] {
             self.recorder.call(call, Asked { set, ..asked });
         }
         for &(slot, length) in slots {

@@ -9,7 +9,7 @@ use second::testing::keys::{self, Key};
 use second::testing::sheet::Try;
 
 /// Keys of each set beside the first, which has the refusals.
-const MORE_KEYS: u8 = 6;
+const MORE_KEYS: u8 = 3;
 
 impl Recording<'_> {
     pub(super) fn key_tests(&mut self) {
@@ -59,7 +59,7 @@ impl Recording<'_> {
     }
 
     /// A key at K and one whose f has no inverse: key test and a try each, with thresholds that
-    /// pass everything. Then keys whose counts are wrong.
+    /// pass everything.
     pub(super) fn other_keys(&mut self) {
         let mut attempt = Try::new(self.set, &self.key, b"other keys", &mut self.noise).0;
         attempt.thresholds.fill(u64::MAX);
@@ -68,11 +68,10 @@ impl Recording<'_> {
             self.call(Call::KeyTest);
             self.attempt(&attempt);
         }
-        self.wrong_counts();
     }
 
     /// Every edge of the counts, and a key past K, also with the relation broken.
-    fn wrong_counts(&mut self) {
+    pub(super) fn wrong_counts(&mut self) {
         for edge in Edge::all(self.set) {
             let key = edge.of(self.set, &self.key, &mut self.noise);
             self.test_and_respond(&key);

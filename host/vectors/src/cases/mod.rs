@@ -30,7 +30,6 @@ pub fn vectors(seed: u64) -> Vec<u8> {
         };
         recording.key_tests();
         let signed = recording.sheets();
-        recording.commitment_refusals();
         recording.response_refusals(&signed.last_try);
         recording.word_counts(&signed.last_try);
         recording.rebuild_refusals(&signed.signature);
@@ -40,6 +39,11 @@ pub fn vectors(seed: u64) -> Vec<u8> {
         recording.reader_refusals(&signed.signature);
         recording.sums();
         recording.other_keys();
+        if set.like() == set {
+            // Commitments and keys know nothing of kappa: their refusals stand once.
+            recording.commitment_refusals();
+            recording.wrong_counts();
+        }
         recording.more_keys();
     }
     recorder.finish()

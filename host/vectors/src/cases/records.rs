@@ -3,10 +3,11 @@
 use super::faults::{Z1_OUTPUT, Z2_OUTPUT};
 use super::{with_lengths, Recording};
 use crate::slots::{LIST, RECORD, Z1, Z2_DAGGER};
-use second::parameters::N;
+use second::parameters::{LIST_BUFFER, N};
 use second::record::{header, total};
 use second::testing::calls::Call;
 use second::testing::sheet::Signature;
+use second::{Edition, Set};
 
 impl Recording<'_> {
     pub(super) fn load_record(&mut self, signature: &Signature) {
@@ -41,7 +42,8 @@ impl Recording<'_> {
         self.load_record(signature);
         let asked = self.asked();
         self.output_lengths(Call::Read, asked, &[Z1_OUTPUT, Z2_OUTPUT]);
-        for length in [0, 38, 40] {
+        let older = Edition::OLDER.list_buffer();
+        for length in [0, older, LIST_BUFFER - 1, LIST_BUFFER + 1] {
             let other = with_lengths(asked, |lengths| lengths.list = length);
             self.recorder.call(Call::Read, other);
         }
@@ -53,7 +55,7 @@ impl Recording<'_> {
                 }
             });
         }
-        for byte in 0..6u8 {
+        for byte in 0..=Set::ABOVE as u8 {
             self.recorder.patched(RECORD, 4, byte, |recorder| {
                 recorder.call(Call::Read, asked);
             });

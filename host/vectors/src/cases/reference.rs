@@ -7,6 +7,7 @@ use crate::slots::{HASHED, LIST, THRESHOLDS, WORDS, Y1, Y2, Z1, Z2_DAGGER};
 use second::parameters::N;
 use second::testing::calls::Call;
 use second::testing::keys;
+use second::Set;
 
 /// 01's reference point: set 1, f = 1, g = 0, a = 1, masks zero, list 0 .. 22, sign bit 0. Its key
 /// is refused.
@@ -60,8 +61,8 @@ fn rests(recorder: &mut Recorder) {
     ];
     recorder.patched_run(Y2, 0, &y2, |recorder| {
         recorder.patched_run(Y1, 13, &[2i16, 2], |recorder| {
-            for set in 1..=4 {
-                recorder.call(Call::CommitmentWithRests, asked(set));
+            for set in Set::ALL {
+                recorder.call(Call::CommitmentWithRests, asked(set.number()));
             }
         });
     });

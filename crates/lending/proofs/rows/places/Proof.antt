@@ -1,16 +1,17 @@
-use Prim.Native.Nat.{_-_, _≤_}
+use Prim.Native.Nat.{_+_, _-_, _≤_}
 use mathlib.Core.Path.{_≡_}
 use native.Mathlib.Omega.{arith}
 use lib.ListN.{length, length-set}
+use Rattle.sets.specs.Numbers.{listLimit}
 use borrow.Author.Needs.{needs}
 use Rattle.lending.proofs.rows.places.Statement.{statement}
 use Rattle.lending.proofs.rows.places.Tie as tie
 
 abbrev Inv-loop : tie.InvT-loop
-Inv-loop at place list₀ i₀ list i = (i ≤ 40) × (length list ≡ 40)
+Inv-loop at place list₀ i₀ list i = (i ≤ listLimit + 1) × (length list ≡ listLimit + 1)
 
 abbrev μ-loop : tie.MeasureT-loop
-μ-loop at place list₀ i₀ list i = 40 - i
+μ-loop at place list₀ i₀ list i = listLimit + 1 - i
 
 loop-holds : tie.Need-loop-holds Inv-loop μ-loop
 loop-holds c = search needs

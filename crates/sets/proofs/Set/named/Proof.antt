@@ -1,28 +1,11 @@
 use borrow.Author.Tests.{ne-eqb}
-use Rattle.sets.specs.Numbers.{namedOf}
+use Rattle.sets.specs.Numbers.{namedOf, numbered}
 use Rattle.sets.proofs.Set.named.Statement.{statement}
 use Rattle.sets.proofs.Set.named.Tie as tie
 
-returns : tie.Need-returns
-unfolding namedOf
-returns c = rw (c .match .keys1)
-
-returns-2 : tie.Need-returns-2
-unfolding namedOf
-returns-2 c = rw (c .match .keys2)
-
-returns-3 : tie.Need-returns-3
-unfolding namedOf
-returns-3 c = rw (c .match .keys3)
-
-returns-4 : tie.Need-returns-4
-unfolding namedOf
-returns-4 c = rw (c .match .keys4)
-
-returns-5 : tie.Need-returns-5
-unfolding namedOf
-returns-5 c =
-    simp (ne-eqb _ _ (c .match .rest .1), ne-eqb _ _ (c .match .rest .0 .1), ne-eqb _ _ (c .match .rest .0 .0 .1), ne-eqb _ _ (c .match .rest .0 .0 .0 .1))
-
 pub named-spec : {M : Type 1} → statement M
-named-spec = tie.close (tie.spec returns returns-2 returns-3 returns-4 returns-5)
+unfolding namedOf numbered
+named-spec = tie.close (tie.spec
+    (λ c. rw (c .match .keys1)) (λ c. rw (c .match .keys2)) (λ c. rw (c .match .keys3)) (λ c. rw (c .match .keys4))
+    (λ c. rw (c .match .keys5)) (λ c. rw (c .match .keys6)) (λ c. rw (c .match .keys7)) (λ c. rw (c .match .keys8))
+    (λ c. simp (ne-eqb _ _ (c .match .rest .1), ne-eqb _ _ (c .match .rest .0 .1), ne-eqb _ _ (c .match .rest .0 .0 .1), ne-eqb _ _ (c .match .rest .0 .0 .0 .1), ne-eqb _ _ (c .match .rest .0 .0 .0 .0 .1), ne-eqb _ _ (c .match .rest .0 .0 .0 .0 .0 .1), ne-eqb _ _ (c .match .rest .0 .0 .0 .0 .0 .0 .1), ne-eqb _ _ (c .match .rest .0 .0 .0 .0 .0 .0 .0 .1))))
