@@ -1,7 +1,7 @@
 -- 02, C-22: eight sets, of which the second four have the keys and limits of the first. Assumes nothing.
 use mathlib.Core.Path.{_≡_, refl, sym, ap, _∙_}
 use mathlib.Core.Bool.{Bool, true, false, cond}
-use mathlib.Core.List.{List, map, map-congr-left}
+use mathlib.Core.List.{List, map-congr-left}
 use Prim.Native.Nat.{ℕ, _+_, _<_, _≤_}
 use native.Mathlib.Omega.{arith}
 use lib.Dec.{eqb}
@@ -25,7 +25,7 @@ use Rattle.commitment.specs.Commitment.{sums, committed, restsOf, commitment, c
 use Rattle.signing.specs.Response.{response}
 use Rattle.checking.specs.Checking.{rebuild, comparison}
 use Rattle.records.specs.Writer.{writingOf}
-use Rattle.promises.specs.Longer.{others, Above, LongerSets, SameKeys, KeysOfFour, NoSet, SetAbove}
+use Rattle.promises.specs.Longer.{Above, LongerSets, KeysOfFour, NoSet, SetAbove}
 
 -- ---- the rows of sets 5 to 8 are those of sets 1 to 4, in their order
 row : ℕ → Row

@@ -1,6 +1,6 @@
 -- What holds of every set alike: the few laws of d, p, kappa and K that everything else is proved from.
 use mathlib.Core.Path.{_≡_, refl, ap, subst, _∙_}
-use mathlib.Core.Bool.{Bool, true, cond, _&&_}
+use mathlib.Core.Bool.{Bool, true, _&&_}
 use mathlib.Core.List.{List, [], _∷_, foldr}
 use Prim.Native.Nat.{ℕ, _+_, _*_, _/_, _^_, _<_, _≤_}
 use native.Mathlib.Omega.{arith}
@@ -10,8 +10,7 @@ use Rattle.laws.proofs.Bounds.{cond-ind}
 use Rattle.laws.proofs.Chain.{and-left, and-right}
 use Rattle.sets.specs.declared.Set.{Set}
 use Rattle.sets.specs.declared.Set.the-variants.{I, II, III, IV, «V», VI, VII, VIII}
-use Rattle.sets.specs.declared.Asked.{Asked}
-use Rattle.sets.specs.declared.Asked.the-variants.{Known, Unknown}
+use Rattle.sets.specs.declared.Asked.the-variants.{Known}
 use Rattle.sets.specs.Numbers.{dimension, twiceModulus, maskLimit, listLimit, listOffset, recordLimit, all, Largest, kappaOf, dOf, pOf, largestOf, boundOf, boundSquaredOf, keyLimitOf, onesOf, twosOf, coefficientLimitOf, totalOf, setNumberOf, lastNumber, numbered, namedOf, askedOf, defaultOne}
 
 -- ---- all sets
