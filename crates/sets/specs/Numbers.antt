@@ -93,10 +93,10 @@ likeOf VIII = Fourth
 
 -- a column of the table: its number in each row
 abbrev pub column : ℕ → ℕ → ℕ → ℕ → Row → ℕ
-column a b c d First = a
-column a b c d Second = b
-column a b c d Third = c
-column a b c d Fourth = d
+column one two three four First = one
+column one two three four Second = two
+column one two three four Third = three
+column one two three four Fourth = four
 
 -- d: the dropped binary digits
 abbrev pub dOf : Set → ℕ
