@@ -7,15 +7,15 @@ use native.Mathlib.Omega.{arith}
 use lib.Dec.{eqb}
 use borrow.Author.Tests.{eqb-true, eq-eqb}
 use lib.IntN.{ℤ}
-use Rattle.laws.specs.Lists.{every, tabulate}
+use lib.ListN.{getD}
+use Rattle.laws.specs.Lists.{every, same, tabulate}
 use Rattle.laws.proofs.Chain.{differ}
+use Rattle.laws.proofs.Loops.{same-is}
 use Rattle.laws.proofs.Entries.{length-tabulate, getD-tabulate, every-at}
 use Rattle.sets.specs.declared.Set.{Set}
-use Rattle.sets.specs.declared.Row.{Row}
-use Rattle.sets.specs.declared.Row.the-variants.{First, Second, Third, Fourth}
 use Rattle.sets.specs.declared.Asked.{Asked}
 use Rattle.sets.specs.declared.Asked.the-variants.{Known, Unknown}
-use Rattle.sets.specs.Numbers.{likeOf, column, setNumberOf, lastNumber, numbered, namedOf, askedOf}
+use Rattle.sets.specs.Numbers.{setNumberOf, lastNumber, numbered, namedOf, askedOf}
 use Rattle.sets.proofs.Alike.{computed, of-all, named-is, number-within, asked-named, asked-back}
 use Rattle.answers.specs.declared.Outcome.the-variants.{UnknownSet}
 use Rattle.rounding.specs.Rounding.{quotient, upper, rest}
@@ -25,39 +25,37 @@ use Rattle.commitment.specs.Commitment.{sums, committed, restsOf, commitment, c
 use Rattle.signing.specs.Response.{response}
 use Rattle.checking.specs.Checking.{rebuild, comparison}
 use Rattle.records.specs.Writer.{writingOf}
-use Rattle.promises.specs.Longer.{Above, LongerSets, KeysOfFour, NoSet, SetAbove}
+use Rattle.promises.specs.Longer.{others, Above, LongerSets, KeysOfFour, NoSet, SetAbove}
 
--- ---- the rows of sets 5 to 8 are those of sets 1 to 4, in their order
-row : ℕ → Row
-row n = cond (eqb n 1) First (cond (eqb n 2) Second (cond (eqb n 3) Third Fourth))
-
-abbrev rowNumber : Row → ℕ
-rowNumber = column 1 2 3 4
-
-row-back : (r : Row) → row (rowNumber r) ≡ r
-unfolding row
-row-back r = elim r [ First ↦ refl | Second ↦ refl | Third ↦ refl | Fourth ↦ refl ]
-
+-- ---- the numbers of sets 5 to 8 are those of sets 1 to 4, in their order
 abbrev alike : Set → Set → Bool
-alike s s′ = cond (eqb (setNumberOf s′) (setNumberOf s + 4)) (eqb (rowNumber (likeOf s′)) (rowNumber (likeOf s))) true
+alike s s′ = cond (eqb (setNumberOf s′) (setNumberOf s + 4)) (same (others s′) (others s)) true
 
-same-row : (s s′ : Set) → Above s s′ → likeOf s′ ≡ likeOf s
-same-row s s′ e =
-    let both = of-all (alike s) (of-all (λ t. computed (alike t)) refl s) s′ in
-    let rows = eqb-true (rowNumber (likeOf s′)) (rowNumber (likeOf s)) (rw (eq-eqb _ _ e) at both) in
-    sym (row-back (likeOf s′)) ∙ (ap row rows ∙ row-back (likeOf s))
+-- computed by the checker for all pairs of sets
+all-alike : computed (λ s. computed (alike s)) ≡ true
+unfolding same
+all-alike = refl
+
+same-others : (s s′ : Set) → Above s s′ → others s′ ≡ others s
+same-others s s′ e =
+    let both = of-all (alike s) (of-all (λ t. computed (alike t)) all-alike s) s′ in
+    same-is (others s′) (others s) (rw (eq-eqb _ _ e) at both)
 
 pub longer-sets : LongerSets
-longer-sets = record { numbers = refl; totals = refl; otherwise = λ s s′ e. rw (same-row s s′ e) }
+longer-sets = record { numbers = refl; totals = refl; otherwise = same-others }
 
-module _ (s s′ : Set) (like : likeOf s′ ≡ likeOf s) where
+module _ (s s′ : Set) (above : Above s s′) where
+  -- in the order of `others`: d, p, largest, B2 squared, K, d1, d2
+  entry : (k : ℕ) → getD (others s′) k 0 ≡ getD (others s) k 0
+  entry k = ap (λ (l : List ℕ). getD l k 0) (same-others s s′ above)
+
   same-upper : (x : ℕ) → upper s′ x ≡ upper s x
   unfolding upper quotient
-  same-upper x = rw like
+  same-upper x = rw (entry 0, entry 1)
 
   same-rest : (x : ℕ) → rest s′ x ≡ rest s x
   unfolding rest quotient
-  same-rest x = rw like
+  same-rest x = rw (entry 0)
 
   same-committed : (a : List ℕ) (y1 y2 : List ℤ) → committed s′ a y1 y2 ≡ committed s a y1 y2
   unfolding committed
@@ -69,13 +67,12 @@ module _ (s s′ : Set) (like : likeOf s′ ≡ likeOf s) where
 
 pub keys-of-four : KeysOfFour
 unfolding keyTest properKey commitment commitmentWithRests lengthRule
-keys-of-four s s′ e =
-    let like = same-row s s′ e in record {
-      key-tests = λ f g a. rw (asked-back s′, asked-back s, like);
-      commitments = λ a y1 y2 out. rw (asked-back s′, asked-back s, same-committed s s′ like a y1 y2);
-      commitments-with-rests = λ a y1 y2 old. rw (asked-back s′, asked-back s, same-committed s s′ like a y1 y2, same-rests s s′ like a y1 y2);
-      length-rules = λ z1 z2. rw like;
-    }
+keys-of-four s s′ e = record {
+  key-tests = λ f g a. rw (asked-back s′, asked-back s, entry s s′ e 4, entry s s′ e 5, entry s s′ e 6);
+  commitments = λ a y1 y2 out. rw (asked-back s′, asked-back s, same-committed s s′ e a y1 y2);
+  commitments-with-rests = λ a y1 y2 old. rw (asked-back s′, asked-back s, same-committed s s′ e a y1 y2, same-rests s s′ e a y1 y2);
+  length-rules = λ z1 z2. rw (entry s s′ e 0, entry s s′ e 2, entry s s′ e 3);
+}
 
 -- ---- no set above 8
 unknown-above : (n : ℕ) → lastNumber < n → askedOf n ≡ Unknown

@@ -92,7 +92,7 @@ likeOf VII = Third
 likeOf VIII = Fourth
 
 -- a column of the table: its number in each row
-abbrev pub column : ℕ → ℕ → ℕ → ℕ → Row → ℕ
+abbrev column : ℕ → ℕ → ℕ → ℕ → Row → ℕ
 column one two three four First = one
 column one two three four Second = two
 column one two three four Third = three
