@@ -33,7 +33,7 @@
  *    No.  When
  *     0   done
  *     1   set above 8
- *     2   a vector, read or written, is not 512 long, thresholds not 31, or the reader's list
+ *     2   a vector, read or written, is not 512 long, thresholds not 31, or a reader's list
  *         buffer not 113
  *     3   coefficient of f, g or a outside its range
  *     4   mask coefficient outside -4096 .. 4096
@@ -47,8 +47,8 @@
  *    11   sum of squares, that of z1 and 4^d times that of z2 dagger, above B2 squared
  *    12   both lists are proper and differ
  *    13   header malformed, with the first byte of the first wrong field; shorter than 24 bytes,
- *         its length
- *    14   writer's output shorter than the total
+ *         its length; a spare bit of a packed record set, its byte (see RECORDS)
+ *    14   output of a writer or a conversion shorter than the total
  *    15   counts wrong: f or g has not exactly the set's number of coefficients of 1 or -1 and of
  *         2 or -2 (see SETS)
  *
@@ -57,24 +57,24 @@
  *   On calls `set` is 1 to 4 for BLISS-B I to IV, and 5 to 8 for the same four with longer
  *   challenges: kappa aside, sets 5 to 8 have the numbers of sets 1 to 4, so a key of set 1 is a key
  *   of set 5, and so on. 0 stands for set 4, on every call but the two whose names end in
- *   _default_one. bursztok_kappa and bursztok_record_bytes tell kappa and the bytes of a record, for
- *   callers that hold no table. f and g each have d1 coefficients of 1 or -1 and d2 of 2 or -2, the
- *   rest zero.
+ *   _default_one. bursztok_kappa, bursztok_record_bytes and bursztok_packed_bytes tell kappa, and
+ *   the bytes of a plain and of a packed record, for callers that hold no table. f and g each have
+ *   d1 coefficients of 1 or -1 and d2 of 2 or -2, the rest zero.
  *
  *   Before version 0.4.0 a set of 0 stood for set 1. A caller that passes 0 for sheets of set 1 is
  *   now refused with 5 by bursztok_rebuild and bursztok_compare, since 23 places are not 39. It
  *   names set 1, or calls bursztok_rebuild_default_one and bursztok_compare_default_one: with them
  *   0 stands for set 1, and in all else they are the other two.
  *
- *    set  kappa   d   p  largest   B2 squared     K   d1  d2  record bytes
- *     1     23   10  24     2100  165,688,384   775  154   0          1606
- *     2     23   10  24     1563  122,633,476   775  154   0          1606
- *     3     30    9  48     1760  104,162,436  1409  216  16          1620
- *     4     39    8  96     1613   98,029,801  1784  231  31          1638
- *     5     58   as set 1                                             1676
- *     6     58   as set 2                                             1676
- *     7     82   as set 3                                             1724
- *     8    113   as set 4                                             1786
+ *    set  kappa   d   p  largest   B2 squared     K   d1  d2  record bytes  packed bytes
+ *     1     23   10  24     2100  165,688,384   775  154   0          1606          1138
+ *     2     23   10  24     1563  122,633,476   775  154   0          1606          1138
+ *     3     30    9  48     1760  104,162,436  1409  216  16          1620          1146
+ *     4     39    8  96     1613   98,029,801  1784  231  31          1638          1156
+ *     5     58   as set 1                                             1676          1178
+ *     6     58   as set 2                                             1676          1178
+ *     7     82   as set 3                                             1724          1205
+ *     8    113   as set 4                                             1786          1240
  *
  *   Sets 5 to 8 are there since version 0.5.0. A reader from before refuses their records with 13
  *   at byte 4, where the set stands. Records of sets 1 to 4 are what they were, byte for byte; what
@@ -90,12 +90,69 @@
  *   words       the noise that the draw reads, from the front
  *   z1, z2      the signature's two vectors of 512 entries; z2 is z2 dagger of the papers
  *
+ * RECORDS
+ *
+ *   A record is a signature as bytes, for storage or a link: a header of 24 bytes, then z1, z2 and
+ *   the list, with nothing between or behind them. It has one of two forms, plain or packed. The
+ *   numbers of the header have their low byte first.
+ *
+ *    bytes    field               plain   packed
+ *     0 -  3  letters             BLB1    BLP1
+ *     4       set, 1 to 8
+ *     5       zero                0       0
+ *     6 -  7  entries of z1       512     512
+ *     8 -  9  offset of z1        24      24
+ *    10 - 11  entries of z2       512     512
+ *    12 - 13  offset of z2        1048    856
+ *    14 - 15  places of the list  kappa of the set
+ *    16 - 17  offset of the list  1560    1112
+ *    18 - 19  total               the bytes of the record, which is its length
+ *    20 - 23  zeros               0       0
+ *
+ *   A section starts on the byte that its offset says. The bits of an entry:
+ *
+ *    section              plain  packed
+ *    z1    512 entries       16      13   two's complement
+ *    z2    512 entries        8       4   two's complement
+ *    list  kappa places      16       9   rising, none negative
+ *
+ *   The bits of a section go low first: bit 0 is the lowest bit of its first byte, bit 8 the lowest
+ *   of its second, and so on. An entry starts where the one before it ends, with its lowest bit:
+ *   entry i of w bits is the bits w i .. w i + w - 1 of its section. In the plain form these are
+ *   whole bytes, the low byte first. In the packed form the first entry of z1 is byte 24 and the
+ *   low five bits of byte 25, the second one the high three bits of byte 25, byte 26 and the low
+ *   two bits of byte 27: 1 and -1 there are the bytes 1, 224, 255, and 3 in the low two bits of the
+ *   next. Two entries of z2 share a byte, the earlier one in its low four bits. Two's complement:
+ *   thirteen bits that hold x, from 0 to 8191, stand for x, or for x - 8192 where x is 4096 or
+ *   more; four bits that hold x, from 0 to 15, for x, or for x - 16 where x is 8 or more.
+ *
+ *   Where the bits of the list end inside a byte, the rest of that byte is spare, and zero: these
+ *   are the high bits of the last byte of a packed record. Its other sections fill their bytes, and
+ *   a plain record has no spare bits.
+ *
+ *    set                  1     2     3     4     5     6     7     8
+ *    plain, bytes      1606  1606  1620  1638  1676  1676  1724  1786
+ *    packed, bytes     1138  1138  1146  1156  1178  1178  1205  1240
+ *    spare bits           1     1     2     1     6     6     6     7
+ *
+ *   What a reader tests, in this order: a record shorter than 24 bytes is 13 at its length; a wrong
+ *   field is 13 at its first byte, the first one in the table before the others, and a record whose
+ *   length is not the set's total 13 at 18; a spare bit that is set is 13 at the last byte, the
+ *   total less 1. Then come 5, 10 and 11, of what the sections hold. So a record of the other form
+ *   is 13 at 0, and a signature has exactly one record in each form.
+ *
+ *   Packed records are there since version 0.6.0. A reader from before refuses them with 13 at 0.
+ *   Plain records are what they were, byte for byte.
+ *
  * SIGNING AND CHECKING A SHEET
  *
  *   Signer: draw masks; bursztok_commitment; hash the commitment and the sheet to a list;
  *   bursztok_respond. With 8 (and with 10 or 11) start again with new masks. Then bursztok_write.
  *   Checker: bursztok_read; bursztok_rebuild; hash the rebuilt vector and the sheet to a list;
  *   bursztok_compare the record's list with it. The sheet holds where every call gives 0.
+ *   For a link that is paid by the byte, as a satellite's, the signer calls bursztok_write_packed
+ *   and the checker bursztok_read_packed in their places; or a stored record goes through
+ *   bursztok_pack before it is sent, and through bursztok_unpack after.
  *   Noise and hash are the caller's. See examples/sheet.c.
  */
 #ifndef BURSZTOK_H
@@ -110,7 +167,7 @@ extern "C" {
 #endif
 
 /* The version of this header and of the library that it belongs to. */
-#define BURSZTOK_VERSION "0.5.0"
+#define BURSZTOK_VERSION "0.6.0"
 
 /* The length of every vector. */
 #define BURSZTOK_VECTOR 512
@@ -118,8 +175,10 @@ extern "C" {
 #define BURSZTOK_THRESHOLDS 31
 /* The length of the reader's list buffer: no list is longer. */
 #define BURSZTOK_LIST 113
-/* The length of the longest record. */
+/* The length of the longest plain record. */
 #define BURSZTOK_RECORD 1786
+/* The length of the longest packed record. */
+#define BURSZTOK_PACKED 1240
 
 /* The stack that a call takes at most, in bytes: see STATE, THREADS, STACK. */
 #define BURSZTOK_STACK_RESPOND 11300
@@ -129,7 +188,11 @@ extern "C" {
 #define BURSZTOK_STACK_READ 3200
 /* With rests too. */
 #define BURSZTOK_STACK_COMMITMENT 2800
-#define BURSZTOK_STACK_WRITE 1300
+#define BURSZTOK_STACK_WRITE 1500
+#define BURSZTOK_STACK_READ_PACKED 4300
+#define BURSZTOK_STACK_WRITE_PACKED 1500
+/* Pack and unpack. */
+#define BURSZTOK_STACK_CONVERT 4300
 /* Each other call. */
 #define BURSZTOK_STACK_OTHER 200
 
@@ -286,7 +349,7 @@ bursztok_answer bursztok_compare_default_one(uint32_t set,
                                              const uint16_t *hashed, size_t hashed_len);
 
 /*
- * The record writer.
+ * The record writer, of the plain form (see RECORDS).
  *
  * Refusals in order: 1, 2, 5, 10, 11, 14. Number 0 writes the first bytes of out, as many as the
  * set's record has (see SETS); a longer out keeps its tail. A set of 0 is written as 4.
@@ -298,10 +361,11 @@ bursztok_answer bursztok_write(uint32_t set,
                                uint8_t *out, size_t out_len);
 
 /*
- * The record reader. record_len must be exactly the length of the record: under 24 bytes it is 13
- * at the length, and with the fields before byte 18 right any other length is 13 at 18. list_len
- * must be 113. A record of a set that the reader does not know is 13 at 4: that is what a reader
- * from before version 0.5.0 answers to one of sets 5 to 8.
+ * The record reader, of the plain form. record_len must be exactly the length of the record: under
+ * 24 bytes it is 13 at the length, and with the fields before byte 18 right any other length is 13
+ * at 18. list_len must be 113. A packed record is 13 at 0. A record of a set that the reader does
+ * not know is 13 at 4: that is what a reader from before version 0.5.0 answers to one of sets 5 to
+ * 8.
  *
  * Refusals in order: 2, 13, 5, 10, 11. Number 0 writes all of z1 and z2 (512 entries each) and
  * the first kappa entries of list; the entries after them keep their contents.
@@ -312,9 +376,44 @@ bursztok_reading bursztok_read(const uint8_t *record, size_t record_len,
                                uint16_t *list, size_t list_len);
 
 /*
- * The section calls: where the z1 bytes (two an entry, low byte first), the z2 dagger bytes (one
- * an entry) and the list bytes (two a place, low byte first) lie in the lent record. They test the
- * header only, with the record's length.
+ * The writer and the reader of packed records: the same signatures in fewer bytes (see RECORDS).
+ * All as with bursztok_write and bursztok_read, but for the form. The reader answers 13 also for a
+ * spare bit that is set, at its byte, the record's last, after all header fields and before 5. A
+ * plain record is 13 at 0.
+ *
+ * Refusals in order: writer 1, 2, 5, 10, 11, 14; reader 2, 13, 5, 10, 11. With number 0 the writer
+ * writes the first bytes of out, as many as the set's packed record has; a longer out keeps its
+ * tail. The reader writes what bursztok_read writes.
+ */
+bursztok_answer bursztok_write_packed(uint32_t set,
+                                      const int16_t *z1, size_t z1_len,
+                                      const int8_t *z2, size_t z2_len,
+                                      const uint16_t *list, size_t list_len,
+                                      uint8_t *out, size_t out_len);
+bursztok_reading bursztok_read_packed(const uint8_t *record, size_t record_len,
+                                      int16_t *z1, size_t z1_len,
+                                      int8_t *z2, size_t z2_len,
+                                      uint16_t *list, size_t list_len);
+
+/*
+ * The conversions: pack makes a packed record of a plain one, unpack a plain one of a packed one.
+ * They give the bytes that the writer of the other form makes of the same signature, and one after
+ * the other gives back the same bytes. The set is the one that the record states.
+ *
+ * Refusals in order: 13, 5, 10, 11, 14. 13 is given as the reader of the form that is lent gives
+ * it, so 13 at 0 for a record that has the other form already. Number 0 writes the first bytes of
+ * out, as many as the set's record has in the other form; a longer out keeps its tail. out must not
+ * overlap record.
+ */
+bursztok_answer bursztok_pack(const uint8_t *record, size_t record_len,
+                              uint8_t *out, size_t out_len);
+bursztok_answer bursztok_unpack(const uint8_t *record, size_t record_len,
+                                uint8_t *out, size_t out_len);
+
+/*
+ * The section calls, of a plain record: where the z1 bytes (two an entry, low byte first), the z2
+ * dagger bytes (one an entry) and the list bytes (two a place, low byte first) lie in the lent
+ * record. They test the header only, with the record's length. A packed record is 13 at 0.
  *
  * Refusals: 13 only, and then start and length of the part are 0. *number and *place are written
  * always; neither pointer may be NULL.
@@ -334,10 +433,16 @@ bursztok_part bursztok_list_section(const uint8_t *record, size_t record_len,
 uint32_t bursztok_kappa(uint32_t set);
 
 /*
- * The bytes of a record of that set: 1606, 1606, 1620, 1638, 1676, 1676, 1724, 1786 for 1 to 8, 1638
- * for 0, and 0 for a number that is no set.
+ * The bytes of a plain record of that set: 1606, 1606, 1620, 1638, 1676, 1676, 1724, 1786 for 1 to
+ * 8, 1638 for 0, and 0 for a number that is no set.
  */
 uint32_t bursztok_record_bytes(uint32_t set);
+
+/*
+ * The bytes of a packed record of that set: 1138, 1138, 1146, 1156, 1178, 1178, 1205, 1240 for 1 to
+ * 8, 1156 for 0, and 0 for a number that is no set.
+ */
+uint32_t bursztok_packed_bytes(uint32_t set);
 
 #ifdef __cplusplus
 }

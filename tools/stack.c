@@ -30,8 +30,8 @@ static uint16_t list[BURSZTOK_LIST], list_out[BURSZTOK_LIST];
 static size_t kappa;
 static bool sign;
 static uint64_t thresholds[BURSZTOK_THRESHOLDS], words[WORDS];
-static uint8_t record[BURSZTOK_RECORD];
-static size_t record_len;
+static uint8_t record[BURSZTOK_RECORD], packed[BURSZTOK_PACKED];
+static size_t record_len, packed_len;
 
 /* What the last call answered. */
 static uint32_t number, place;
@@ -112,6 +112,12 @@ static void record_bytes_of(void)
     number = record_len == 0;
 }
 
+static void packed_bytes_of(void)
+{
+    packed_len = bursztok_packed_bytes(set);
+    number = packed_len == 0;
+}
+
 static void key_test(void)
 {
     number = bursztok_key_test(set, f, BURSZTOK_VECTOR, g, BURSZTOK_VECTOR, a, BURSZTOK_VECTOR)
@@ -182,6 +188,30 @@ static void read_record(void)
                  .number;
 }
 
+static void write_packed(void)
+{
+    number = bursztok_write_packed(set, z1, BURSZTOK_VECTOR, z2, BURSZTOK_VECTOR, list, kappa,
+                                   packed, packed_len)
+                 .number;
+}
+
+static void read_packed(void)
+{
+    number = bursztok_read_packed(packed, packed_len, z1, BURSZTOK_VECTOR, z2, BURSZTOK_VECTOR,
+                                  list_out, BURSZTOK_LIST)
+                 .number;
+}
+
+static void pack(void)
+{
+    number = bursztok_pack(record, record_len, packed, packed_len).number;
+}
+
+static void unpack(void)
+{
+    number = bursztok_unpack(packed, packed_len, record, record_len).number;
+}
+
 static void z1_section(void)
 {
     bursztok_z1_section(record, record_len, &number, &place);
@@ -206,6 +236,7 @@ struct row {
 static const struct row rows[] = {
     {"bursztok_kappa", kappa_of, BURSZTOK_STACK_OTHER},
     {"bursztok_record_bytes", record_bytes_of, BURSZTOK_STACK_OTHER},
+    {"bursztok_packed_bytes", packed_bytes_of, BURSZTOK_STACK_OTHER},
     {"bursztok_key_test", key_test, BURSZTOK_STACK_KEY_TEST},
     {"bursztok_commitment", commitment, BURSZTOK_STACK_COMMITMENT},
     {"bursztok_commitment_with_rests", commitment_with_rests, BURSZTOK_STACK_COMMITMENT},
@@ -216,6 +247,10 @@ static const struct row rows[] = {
     {"bursztok_compare_default_one", compare_default_one, BURSZTOK_STACK_OTHER},
     {"bursztok_write", write_record, BURSZTOK_STACK_WRITE},
     {"bursztok_read", read_record, BURSZTOK_STACK_READ},
+    {"bursztok_write_packed", write_packed, BURSZTOK_STACK_WRITE_PACKED},
+    {"bursztok_read_packed", read_packed, BURSZTOK_STACK_READ_PACKED},
+    {"bursztok_pack", pack, BURSZTOK_STACK_CONVERT},
+    {"bursztok_unpack", unpack, BURSZTOK_STACK_CONVERT},
     {"bursztok_z1_section", z1_section, BURSZTOK_STACK_OTHER},
     {"bursztok_z2_section", z2_section, BURSZTOK_STACK_OTHER},
     {"bursztok_list_section", list_section, BURSZTOK_STACK_OTHER},

@@ -59,6 +59,14 @@ static reply found(section *call)
     return (reply){ number, place, part.start, part.length };
 }
 
+typedef bursztok_reading reader(const uint8_t *, size_t, int16_t *, size_t, int8_t *, size_t, uint16_t *, size_t);
+
+static reply read_by(reader *call)
+{
+    bursztok_reading reading = call(ENTRIES(0, const uint8_t), ENTRIES(1, int16_t), ENTRIES(2, int8_t), ENTRIES(3, uint16_t));
+    return (reply){ reading.number, reading.place, reading.set, 0 };
+}
+
 /* `written` becomes the count of buffers that the call may write to. */
 static reply answer(uint32_t call, uint32_t set, bool sign, uint32_t *written)
 {
@@ -87,12 +95,9 @@ static reply answer(uint32_t call, uint32_t set, bool sign, uint32_t *written)
         *written = 1;
         return told(bursztok_write(set, ENTRIES(0, const int16_t), ENTRIES(1, const int8_t), ENTRIES(2, const uint16_t),
                                    ENTRIES(3, uint8_t)));
-    case 7: {
-        bursztok_reading reading =
-            bursztok_read(ENTRIES(0, const uint8_t), ENTRIES(1, int16_t), ENTRIES(2, int8_t), ENTRIES(3, uint16_t));
+    case 7:
         *written = 3;
-        return (reply){ reading.number, reading.place, reading.set, 0 };
-    }
+        return read_by(bursztok_read);
     case 8:
         return found(bursztok_z1_section);
     case 9:
@@ -110,9 +115,24 @@ static reply answer(uint32_t call, uint32_t set, bool sign, uint32_t *written)
     case 13:
         return told(bursztok_compare_default_one(set, ENTRIES(0, const uint16_t), ENTRIES(1, const uint16_t)));
     case 14:
-        return (reply){ bursztok_kappa(set), 0, 0, 0 };
+        *written = 1;
+        return told(bursztok_write_packed(set, ENTRIES(0, const int16_t), ENTRIES(1, const int8_t), ENTRIES(2, const uint16_t),
+                                          ENTRIES(3, uint8_t)));
     case 15:
+        *written = 3;
+        return read_by(bursztok_read_packed);
+    case 16:
+        *written = 1;
+        return told(bursztok_pack(ENTRIES(0, const uint8_t), ENTRIES(1, uint8_t)));
+    case 17:
+        *written = 1;
+        return told(bursztok_unpack(ENTRIES(0, const uint8_t), ENTRIES(1, uint8_t)));
+    case 18:
+        return (reply){ bursztok_kappa(set), 0, 0, 0 };
+    case 19:
         return (reply){ bursztok_record_bytes(set), 0, 0, 0 };
+    case 20:
+        return (reply){ bursztok_packed_bytes(set), 0, 0, 0 };
     default:
         exit(1);
     }

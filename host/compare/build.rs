@@ -2,7 +2,7 @@
 //! the C library goes to its `__wrap_` function, which reaches the call itself as `__real_`.
 
 /// The calls of `include/bursztok.h`.
-const CALLS: [&str; 15] = [
+const CALLS: [&str; 20] = [
     "key_test",
     "commitment",
     "respond",
@@ -16,8 +16,13 @@ const CALLS: [&str; 15] = [
     "commitment_with_rests",
     "rebuild_default_one",
     "compare_default_one",
+    "write_packed",
+    "read_packed",
+    "pack",
+    "unpack",
     "kappa",
     "record_bytes",
+    "packed_bytes",
 ];
 
 fn main() {

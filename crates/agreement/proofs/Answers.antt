@@ -20,9 +20,10 @@ use Rattle.answers.specs.Outcomes.{isDone, Filled, filled}
 use Rattle.commitment.specs.Commitment.{commitment}
 use Rattle.signing.specs.Response.{Lent, Responded, responded}
 use Rattle.checking.specs.Checking.{claim}
-use Rattle.records.specs.Writer.{writingOf}
+use Rattle.record_forms.specs.declared.Form.{Form}
+use Rattle.records.specs.Writer.{offered, writingOf}
 use Rattle.records.specs.Reader.{Found, found}
-use Rattle.agreement.specs.Accepted.{fills, rebuilds, readRebuilds, sent, sentAfter}
+use Rattle.agreement.specs.Accepted.{fills, rebuilds, readRebuilds, sent, held, sentAfter}
 
 -- ---- vectors of different lengths differ
 pub longer : (x y : List ℕ) → (length x ≡ length y → ⊥) → false ≡ same x y
@@ -62,17 +63,17 @@ module _ (a rounded : List ℕ) (r : Bool) (o : Outcome) (n : ℕ) (x y : List �
     read-as s h kappa i b f = rw (← e, passed {r = r} {s = isDone o} d t, sym g ∙ h, ← i) f
 
 -- ---- the signer
-module _ (set : ℕ) (c : Lent) (out before : List ℕ) (r : Bool) (o : Outcome) (count : ℕ) (z1 z2 : List ℤ) (w : Responded) (e : responded o count z1 z2 ≡ w)
+module _ (form : Form) (set : ℕ) (c : Lent) (out before : List ℕ) (r : Bool) (o : Outcome) (count : ℕ) (z1 z2 : List ℤ) (w : Responded) (e : responded o count z1 z2 ≡ w)
     (d : r ≡ isDone o) where
-  pub not-given : not r ≡ true → sent o count out before ≡ sentAfter set c out before w
+  pub not-given : not r ≡ true → sent o count out before ≡ sentAfter form set c (held out before) w
   unfolding sentAfter
   not-given t = rw (← e, failed {r = r} {s = isDone o} d t)
 
   module _ (t : not r ≡ false) (p : Bool) (q : Outcome) (rounded : List ℕ) (f : filled q rounded ≡ commitment set (c .a) (c .y1) (c .y2) before) (g : p ≡ isDone q) where
-    pub not-committed : not p ≡ true → sent q count out rounded ≡ sentAfter set c out before w
+    pub not-committed : not p ≡ true → sent q count out rounded ≡ sentAfter form set c (held out before) w
     unfolding sentAfter
     not-committed u = rw (← e, passed {r = r} {s = isDone o} d t, ← f, failed {r = p} {s = isDone q} g u)
 
-    pub recorded-as : not p ≡ false → (v : Outcome) (after : List ℕ) → filled v after ≡ writingOf set z1 z2 (c .list) out → sent v count after rounded ≡ sentAfter set c out before w
+    pub recorded-as : not p ≡ false → (v : Outcome) (after : List ℕ) → filled v after ≡ writingOf form (offered set z1 z2 (c .list)) out → sent v count after rounded ≡ sentAfter form set c (held out before) w
     unfolding sentAfter
     recorded-as u v after h = rw (← e, passed {r = r} {s = isDone o} d t, ← f, passed {r = p} {s = isDone q} g u, ← h)

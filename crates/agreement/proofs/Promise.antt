@@ -4,41 +4,48 @@ use mathlib.Core.Bool.{true}
 use mathlib.Core.List.{List, _++_}
 use Prim.Native.Nat.{ℕ, zero}
 use lib.IntN.{ℤ, pos}
-use lib.ListN.{length, take, drop, replicate, length-replicate}
+use lib.ListN.{take, drop, replicate, length-replicate}
 use lib.Seq.{take-at}
 use Rattle.laws.proofs.Loops.{is-same}
 use Rattle.sets.specs.declared.Set.{Set}
-use Rattle.sets.specs.Numbers.{dimension, listLimit, kappaOf, totalOf, setNumberOf}
+use Rattle.sets.specs.Numbers.{dimension, listLimit, kappaOf, setNumberOf}
 use Rattle.sets.proofs.Alike.{asked-back}
 use Rattle.answers.specs.declared.Outcome.{Outcome}
 use Rattle.answers.specs.declared.Outcome.the-variants.{Done}
-use Rattle.answers.specs.Outcomes.{Filled, filled}
+use Rattle.answers.specs.Outcomes.{isDone, Filled, filled}
 use Rattle.answers.proofs.Calls.{zero-is}
 use Rattle.vectors.specs.Places.{properList}
 use Rattle.vectors.proofs.Rising.{proper-count}
 use Rattle.commitment.specs.Commitment.{committed, commitment}
-use Rattle.signing.specs.Response.{responded, response}
 use Rattle.checking.specs.Checking.{claim, rebuild}
-use Rattle.records.specs.Signatures.{signature, recordOf}
-use Rattle.records.specs.Reader.{found, readingOf}
-use Rattle.records.proofs.RoundTrip.{written-reads, read-done}
+use Rattle.record_forms.specs.declared.Form.{Form}
+use Rattle.record_forms.specs.Forms.{totalOf}
+use Rattle.records.specs.Signatures.{signature, recordOf, refusalOf}
+use Rattle.records.specs.Writer.{offered}
+use Rattle.records.specs.Reader.{found, Buffers, buffers, readingOf}
+use Rattle.records.proofs.Buffers.{refusal-proper}
+use Rattle.records.proofs.Forms.{Sized}
+use Rattle.records.proofs.RoundTrip.{written, reads-back, front-back, recorded-back}
+use Rattle.records.proofs.Conversions.{converts}
 use Rattle.promises.specs.Demands.{Fills}
-use Rattle.promises.proofs.Signatures.{given-out}
 use Rattle.promises.proofs.Agreement.{given-out-is-accepted, given-out-is-written, same-list}
 use Rattle.promises.proofs.Defaults.{same-calls}
 use Rattle.agreement.specs.Accepted.{fills, rebuilds, readRebuilds, accepted, SaysYes}
+
+-- the checker's buffers
+abbrev blanks : Buffers
+blanks = buffers (replicate dimension (pos 0)) (replicate dimension (pos 0)) (replicate listLimit 0)
 
 fills-done : {x : Filled} {vector : List ℕ} → Fills x vector → x ≡ filled Done vector
 fills-done h = h .1 ∙ ap (λ (p : Outcome). filled p _) (zero-is (h .0) (h .2))
 
 -- a record that reads as a signature from which the vector is rebuilt
-yes : (s : Set) (a rec rounded : List ℕ) (z1 z2 : List ℤ) (l : List ℕ) → properList s l ≡ true
-    → readingOf rec (replicate dimension (pos 0)) (replicate dimension (pos 0)) (replicate listLimit 0)
-    ≡ found Done (setNumberOf s) z1 z2 (l ++ drop (kappaOf s) (replicate listLimit 0))
+yes : (form : Form) (s : Set) (a rec rounded : List ℕ) (z1 z2 : List ℤ) (l : List ℕ) → properList s l ≡ true
+    → readingOf form rec blanks ≡ found Done (setNumberOf s) z1 z2 (l ++ drop (kappaOf s) (replicate listLimit 0))
     → rebuild (setNumberOf s) a (claim z1 z2 l) (replicate dimension 0) ≡ filled Done rounded
-    → accepted a rec rounded ≡ true
+    → accepted form a rec rounded ≡ true
 unfolding accepted readRebuilds rebuilds fills
-yes s a rec rounded z1 z2 l proper reads restores =
+yes form s a rec rounded z1 z2 l proper reads restores =
     rw (
       reads,
       asked-back s,
@@ -49,26 +56,31 @@ yes s a rec rounded z1 z2 l proper reads restores =
     )
 
 pub says-yes : SaysYes
-says-yes set c o count z1 z2 s before out e number known lb room =
-    let done : response set c ≡ responded Done count z1 z2 = e ∙ ap (λ (p : Outcome). responded p count z1 z2) (zero-is o number) in
-    let given = given-out c count z1 z2 set done in
-    let own : given .0 ≡ s = let asked = given .1 in cc in
+says-yes form set c o count z1 z2 s before out e number known lb room =
     let zeros : List ℕ = replicate dimension zero in
     let vectors = given-out-is-accepted set c o count z1 z2 before zeros e number lb (length-replicate dimension zero) in
     let same-set : vectors .0 ≡ s = let asked = vectors .1 in cc in
     let commits : Fills (commitment set (c .a) (c .y1) (c .y2) before) (committed s (c .a) (c .y1) (c .y2)) = rw same-set at (vectors .2) in
     let restores : Fills (rebuild set (c .a) (claim z1 z2 (c .list)) zeros) (committed s (c .a) (c .y1) (c .y2)) = rw same-set at (vectors .3) in
-    let writes = given-out-is-written set s c o count z1 z2 out e number known room in
-    let after : List ℕ = recordOf (signature s z1 z2 (c .list)) ++ drop (totalOf s) out in
-    let back = written-reads set z1 z2 (c .list) out Done after refl writes in
-    let same : back .s ≡ s = let asked = back .asked in cc in
-    let blank : List ℤ = replicate dimension (pos 0) in
-    let blank-512 : length blank ≡ dimension = length-replicate dimension (pos 0) in
-    let places : List ℕ = replicate listLimit zero in (
+    let writes = given-out-is-written form set s c o count z1 z2 out e number known room in
+    let g = signature s z1 z2 (c .list) in
+    let after : List ℕ = recordOf form g ++ drop (totalOf form s) out in
+    let back = written form (offered set z1 z2 (c .list)) out after Done refl writes in
+    let own : back .s ≡ s = let asked = back .asked in cc in
+    let sized : Sized g = rw own at (back .sized) in
+    let kept : isDone (refusalOf g) ≡ true = rw own at (back .kept) in
+    let front : (f : Form) (old : List ℕ) → take (totalOf f s) (recordOf f g ++ drop (totalOf f s) old) ≡ recordOf f g = λ f old. front-back f g sized kept old _ refl in
+    let accepts : (f : Form) (old : List ℕ) → accepted f (c .a) (take (totalOf f s) (recordOf f g ++ drop (totalOf f s) old)) (committed s (c .a) (c .y1) (c .y2)) ≡ true =
+    λ f old. yes f s (c .a) _ (committed s (c .a) (c .y1) (c .y2)) z1 z2 (c .list) (refusal-proper g kept)
+    (rw (front f old) (reads-back f g sized kept blanks (length-replicate dimension (pos 0)) (length-replicate dimension (pos 0)) (length-replicate listLimit zero)))
+    (same-calls (setNumberOf s) set (asked-back s ∙ sym known) .rebuilds (c .a) (claim z1 z2 (c .list)) zeros ∙ fills-done restores) in (
       after,
       commits,
       (Done, writes, refl),
-      yes s (c .a) (take (totalOf s) after) (committed s (c .a) (c .y1) (c .y2)) z1 z2 (c .list) (rw own at (given .2 .list))
-          (read-done (rw same at (back .reads blank blank places blank-512 blank-512 (length-replicate listLimit zero))))
-          (same-calls (setNumberOf s) set (asked-back s ∙ sym known) .rebuilds (c .a) (claim z1 z2 (c .list)) zeros ∙ fills-done restores),
+      accepts form out,
+      λ to room h. (
+        recordOf to g ++ drop (totalOf to s) room,
+        (Done, rw (front form out) (converts form to g sized kept room ∙ recorded-back to g room kept h), refl),
+        accepts to room,
+      ),
     )

@@ -8,14 +8,17 @@ use lib.ListN.{length, take, replicate}
 use Rattle.laws.specs.Lists.{same}
 use Rattle.sets.specs.declared.Set.{Set}
 use Rattle.sets.specs.declared.Asked.the-variants.{Known}
-use Rattle.sets.specs.Numbers.{dimension, listLimit, kappaOf, totalOf, askedOf}
+use Rattle.sets.specs.Numbers.{dimension, listLimit, kappaOf, askedOf}
 use Rattle.answers.specs.declared.Outcome.{Outcome}
 use Rattle.answers.specs.Outcomes.{numberOf, isDone, unless, forSet, Filled, filled}
 use Rattle.commitment.specs.Commitment.{committed, commitment}
 use Rattle.signing.specs.Response.{Lent, Responded, responded, response}
 use Rattle.checking.specs.Checking.{Claim, claim, rebuild, comparison}
-use Rattle.records.specs.Writer.{writingOf}
-use Rattle.records.specs.Reader.{Found, found, readingOf}
+use Rattle.record_forms.specs.declared.Form.{Form}
+use Rattle.record_forms.specs.Forms.{totalOf}
+use Rattle.records.specs.Writer.{offered, writingOf}
+use Rattle.records.specs.Reader.{Found, found, buffers, readingOf}
+use Rattle.records.specs.Conversion.{conversionOf}
 use Rattle.promises.specs.Demands.{Fills}
 
 -- ---- the checker
@@ -33,9 +36,9 @@ unfoldable pub readRebuilds : List ℕ → List ℕ → Found → Bool
 readRebuilds a rounded (found o set z1 z2 list) =
     isDone o && forSet (askedOf set) false (λ s. rebuilds a set (claim z1 z2 (take (kappaOf s) list)) rounded)
 
--- of a record, read into buffers of zeros
-unfoldable pub accepted : List ℕ → List ℕ → List ℕ → Bool
-accepted a rec rounded = readRebuilds a rounded (readingOf rec (replicate dimension (pos 0)) (replicate dimension (pos 0)) (replicate listLimit 0))
+-- of a record of either form, read into buffers of zeros
+unfoldable pub accepted : Form → List ℕ → List ℕ → List ℕ → Bool
+accepted form a rec rounded = readRebuilds a rounded (readingOf form rec (buffers (replicate dimension (pos 0)) (replicate dimension (pos 0)) (replicate listLimit 0)))
 
 -- ---- the signer
 
@@ -47,31 +50,45 @@ pub data Sent : Type 0 where
 abbrev pub recorded : ℕ → List ℕ → Filled → Sent
 recorded count rounded (filled o out) = sent o count out rounded
 
--- the commitment and the writer, each where nothing was refused before it; `out` and `before` are what the output and the vector held
+-- the commitment and the writer, each where nothing was refused before it; `out` is what the output held
 abbrev pub committedAnd : ℕ → List ℕ → Filled → Filled → Sent
 committedAnd count out (filled o rounded) writing = unless o (λ refusal. sent refusal count out rounded) (recorded count rounded writing)
 
-unfoldable pub sentAfter : ℕ → Lent → List ℕ → List ℕ → Responded → Sent
-sentAfter set c out before (responded o count z1 z2) =
-    unless o (λ refusal. sent refusal count out before)
-    (committedAnd count out (commitment set (c .a) (c .y1) (c .y2) before) (writingOf set z1 z2 (c .list) out))
+-- what they held
+pub record Held : Type 0 where
+  pub out : List ℕ
+  pub before : List ℕ
 
--- the response first
-abbrev pub sending : ℕ → Lent → List ℕ → List ℕ → Sent
-sending set c out before = sentAfter set c out before (response set c)
+abbrev pub held : List ℕ → List ℕ → Held
+held out before = record { out = out; before = before }
+
+unfoldable pub sentAfter : Form → ℕ → Lent → Held → Responded → Sent
+sentAfter form set c h (responded o count z1 z2) =
+    unless o (λ refusal. sent refusal count (h .out) (h .before))
+    (committedAnd count (h .out) (commitment set (c .a) (c .y1) (c .y2) (h .before)) (writingOf form (offered set z1 z2 (c .list)) (h .out)))
+
+-- the response first; the record is of the form that is asked for
+abbrev pub sending : Form → ℕ → Lent → Held → Sent
+sending form set c h = sentAfter form set c h (response set c)
 
 -- ---- the promise
 
--- For every response given out the commitment for the same masks answers 0, the writer for the same set answers 0, whatever their buffers held, and the checker
--- accepts the record, the first bytes of the writer's output, for the vector committed to.
+-- For every response given out the commitment for the same masks answers 0, the writer of either form for the same set answers 0, whatever their buffers held,
+-- and the checker accepts the record, the first bytes of the writer's output, for the vector committed to. A conversion of that record answers 0 too, and the
+-- checker accepts what it made.
 abbrev pub SaysYes : Type 0
 SaysYes =
-    (set : ℕ) (c : Lent) (o : Outcome) (count : ℕ) (z1 z2 : List ℤ) (s : Set) (before out : List ℕ)
+    (form : Form) (set : ℕ) (c : Lent) (o : Outcome) (count : ℕ) (z1 z2 : List ℤ) (s : Set) (before out : List ℕ)
     → response set c ≡ responded o count z1 z2
     → numberOf o ≡ 0
     → askedOf set ≡ Known s
-    → length before ≡ dimension → totalOf s ≤ length out
+    → length before ≡ dimension → totalOf form s ≤ length out
     → (after : List ℕ)
     × Fills (commitment set (c .a) (c .y1) (c .y2) before) (committed s (c .a) (c .y1) (c .y2))
-    × Fills (writingOf set z1 z2 (c .list) out) after
-    × (accepted (c .a) (take (totalOf s) after) (committed s (c .a) (c .y1) (c .y2)) ≡ true)
+    × Fills (writingOf form (offered set z1 z2 (c .list)) out) after
+    × (accepted form (c .a) (take (totalOf form s) after) (committed s (c .a) (c .y1) (c .y2)) ≡ true)
+    × ((to : Form) (room : List ℕ)
+    → totalOf to s ≤ length room
+    → (other : List ℕ)
+    × Fills (conversionOf form to (take (totalOf form s) after) room) other
+    × (accepted to (c .a) (take (totalOf to s) other) (committed s (c .a) (c .y1) (c .y2)) ≡ true))

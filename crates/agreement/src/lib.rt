@@ -5,23 +5,24 @@ ghost use lib.ListN.{replicate};
 ghost use Rattle.laws.specs.Lists.{same};
 ghost use Rattle.sets.specs.Numbers.{dimension};
 ghost use Rattle.checking.specs.Checking.{claim};
-ghost use Rattle.agreement.specs.Accepted.{rebuilds as rebuildsTo, accepted, sent, sending};
+ghost use Rattle.agreement.specs.Accepted.{rebuilds as rebuildsTo, accepted, sent, held, sending};
 use answers::Outcome;
+use record_forms::Form;
 use sets::Asked;
 use sets::Set;
 use signing::Response;
 
 // ---- the checker
 
-// Whether a checker who holds the public key takes a record for that of whoever committed to a vector: the reader reads it, nothing is refused, and the rebuilt
+// Whether a checker who holds the public key takes a record of a form for that of whoever committed to a vector: the reader reads it, nothing is refused, and the rebuilt
 // vector is the committed one.
-pub fn accepts(a: &[u16], rec: &[u8], committed: &[u16]) -> bool
-    ensures { λ r. ⌜ r ≡ accepted (now (a .entry)) (now (rec .entry)) (now (committed .entry)) ⌝ }
+pub fn accepts(form: Form, a: &[u16], rec: &[u8], committed: &[u16]) -> bool
+    ensures { λ r. ⌜ r ≡ accepted form (now (a .entry)) (now (rec .entry)) (now (committed .entry)) ⌝ }
 {
     let mut z1 = [0i16; Set::DIMENSION];
     let mut z2 = [0i8; Set::DIMENSION];
     let mut list = [0u16; Set::LIST_LIMIT];
-    let reading = records::read(rec, &mut z1, &mut z2, &mut list);
+    let reading = records::read(form, rec, &mut z1, &mut z2, &mut list);
     let read = reading.outcome;
     if !read.is_done() {
         return false;
@@ -65,6 +66,7 @@ fn is_same(x: &[u16], y: &[u16]) -> bool
 
 // Signs, commits and writes the record to the front of an output. The outcome is the first refusal of the three.
 pub fn send(
+    form: Form,
     set: u32,
     f: &[i8],
     g: &[i8],
@@ -79,7 +81,7 @@ pub fn send(
     committed: &mut [u16],
 ) -> Response
     ensures { λ r. ⌜ sent (r .outcome) (r .words) (now (out .exit)) (now (committed .exit))
-        ≡ sending set (record {
+        ≡ sending form set (record {
           f = now (f .entry);
           g = now (g .entry);
           a = now (a .entry);
@@ -92,7 +94,7 @@ pub fn send(
           z1 = replicate dimension (pos 0);
           z2 = replicate dimension (pos 0);
         })
-        (now (out .entry)) (now (committed .entry)) ⌝ }
+        (held (now (out .entry)) (now (committed .entry))) ⌝ }
 {
     let mut z1 = [0i16; Set::DIMENSION];
     let mut z2 = [0i8; Set::DIMENSION];
@@ -122,7 +124,7 @@ pub fn send(
         };
     }
     Response {
-        outcome: records::write(set, &z1, &z2, list, out),
+        outcome: records::write(form, set, &z1, &z2, list, out),
         words: response.words,
     }
 }

@@ -1,13 +1,16 @@
 // Signer and checker. A line for each case: what is lent, the number that the response answers and the words that it took; where a signature is given out, what
-// `accepts` says of its record. Then records, keys and vectors that were changed.
+// `accepts` says of its record, plain, sent packed, packed and unpacked again. Then records, keys and vectors that were changed.
 ghost use mathlib.Core.Path.{_≡_};
 ghost use lib.ListN.{length};
-ghost use Rattle.sets.specs.Numbers.{dimension, recordLimit};
+ghost use Rattle.sets.specs.Numbers.{dimension};
+ghost use Rattle.record_forms.specs.declared.Form.the-variants.{Plain};
+ghost use Rattle.record_forms.specs.Forms.{recordLimitOf};
 use lending::first_bytes;
 use lending::first_long;
 use lending::first_whole;
 use lending::rows;
 use libc::STDOUT_FILENO;
+use record_forms::Form;
 use sets::Asked;
 use sets::Set;
 use signing::Response;
@@ -225,21 +228,55 @@ fn run(text: &[u8], c: Case) {
 }
 
 fn answered(c: Case) {
-    let mut rec = [0u8; Set::RECORD_LIMIT];
+    let mut rec = [0u8; record_forms::RECORD_LIMIT];
     let mut committed = [0u16; Set::DIMENSION];
-    let r = sent(c, &mut rec, &mut committed);
+    let r = sent(Form::Plain, c, &mut rec, &mut committed);
     let outcome = r.outcome;
     number(b": response ", outcome.number() as u64);
     number(b", words taken ", r.words as u64);
     if outcome.is_done() {
         let a = public_key(c);
-        told(&a, first_bytes(&rec, total_of(c.set)), &committed);
-    } else {
-        print(b"\n");
+        let total = total_of(Form::Plain, c.set);
+        told(
+            b"; accepted: ",
+            Form::Plain,
+            &a,
+            first_bytes(&rec, total),
+            &committed,
+        );
+        packed_too(c, &a, first_bytes(&rec, total), &committed);
     }
+    print(b"\n");
 }
 
-fn sent(c: Case, rec: &mut [u8], committed: &mut [u16]) -> Response {
+// The same sent packed; and the plain record packed, and unpacked again.
+fn packed_too(c: Case, a: &[u16], rec: &[u8], committed: &[u16]) {
+    let mut packed = [0u8; record_forms::PACKED_LIMIT];
+    let mut again = [0u16; Set::DIMENSION];
+    sent(Form::Packed, c, &mut packed, &mut again);
+    let total = total_of(Form::Packed, c.set);
+    told(
+        b", sent packed: ",
+        Form::Packed,
+        a,
+        first_bytes(&packed, total),
+        committed,
+    );
+    converted_too(c.set, a, rec, committed);
+}
+
+fn converted_too(set: u32, a: &[u16], rec: &[u8], committed: &[u16]) {
+    let mut packed = [0u8; record_forms::PACKED_LIMIT];
+    let mut plain = [0u8; record_forms::RECORD_LIMIT];
+    records::convert(Form::Plain, Form::Packed, rec, &mut packed);
+    let half = first_bytes(&packed, total_of(Form::Packed, set));
+    told(b", packed: ", Form::Packed, a, half, committed);
+    records::convert(Form::Packed, Form::Plain, half, &mut plain);
+    let whole = first_bytes(&plain, total_of(Form::Plain, set));
+    told(b", unpacked: ", Form::Plain, a, whole, committed);
+}
+
+fn sent(form: Form, c: Case, rec: &mut [u8], committed: &mut [u16]) -> Response {
     let f = first(c);
     let g = second(c);
     let mask1 = c.y1;
@@ -251,6 +288,7 @@ fn sent(c: Case, rec: &mut [u8], committed: &mut [u16]) -> Response {
     let places = rows::places(0, 0);
     let words = [0u64; 90];
     agreement::send(
+        form,
         c.set,
         &f,
         &g,
@@ -296,34 +334,95 @@ fn kappa_of(set: u32) -> usize {
     }
 }
 
-fn total_of(set: u32) -> usize {
+fn total_of(form: Form, set: u32) -> usize {
     match Set::asked(set) {
         Asked::Unknown => 0,
-        Asked::Known(s) => s.total(),
+        Asked::Known(s) => form.total(s),
     }
 }
 
-fn told(a: &[u16], rec: &[u8], committed: &[u16]) {
-    if agreement::accepts(a, rec, committed) {
-        print(b"; accepted: yes\n");
+fn told(text: &[u8], form: Form, a: &[u16], rec: &[u8], committed: &[u16]) {
+    print(text);
+    if agreement::accepts(form, a, rec, committed) {
+        print(b"yes");
     } else {
-        print(b"; accepted: no\n");
+        print(b"no");
     }
 }
 
 // ---- what was changed
 
 fn changed(text: &[u8], c: Case) {
-    let mut rec = [0u8; Set::RECORD_LIMIT];
+    let mut rec = [0u8; record_forms::RECORD_LIMIT];
     let mut committed = [0u16; Set::DIMENSION];
-    sent(c, &mut rec, &mut committed);
+    sent(Form::Plain, c, &mut rec, &mut committed);
     let a = public_key(c);
     print(text);
-    damaged(&a, &rec, total_of(c.set), &committed);
+    damaged(&a, &rec, total_of(Form::Plain, c.set), &committed);
+    packed_changed(c, &a, &committed);
+}
+
+// The same sent packed.
+fn packed_changed(c: Case, a: &[u16], committed: &[u16]) {
+    let mut rec = [0u8; record_forms::PACKED_LIMIT];
+    let mut again = [0u16; Set::DIMENSION];
+    sent(Form::Packed, c, &mut rec, &mut again);
+    let total = total_of(Form::Packed, c.set);
+    packed_asked(
+        b"  packed, as it was sent",
+        a,
+        first_bytes(&rec, total),
+        committed,
+    );
+    raised(
+        b"  packed, first byte of z1 more by 1",
+        a,
+        &mut rec,
+        total,
+        committed,
+        24,
+    );
+    raised(
+        b"  packed, first byte of z2 dagger more by 1",
+        a,
+        &mut rec,
+        total,
+        committed,
+        856,
+    );
+    raised(
+        b"  packed, first byte of the list more by 1",
+        a,
+        &mut rec,
+        total,
+        committed,
+        1112,
+    );
+    spare(a, &mut rec, total, committed);
+}
+
+// A byte more by 1, then put back.
+fn raised(text: &[u8], a: &[u16], rec: &mut [u8], total: usize, committed: &[u16], at: usize) {
+    raise(rec, at, 1);
+    packed_asked(text, a, first_bytes(rec, total), committed);
+    raise(rec, at, 255);
+}
+
+// The highest bit of the last byte is a spare bit of every set.
+fn spare(a: &[u16], rec: &mut [u8], total: usize, committed: &[u16]) {
+    raise(rec, less(total, 1), 128);
+    let text = b"  packed, a spare bit set";
+    packed_asked(text, a, first_bytes(rec, total), committed);
+}
+
+fn packed_asked(text: &[u8], a: &[u16], rec: &[u8], committed: &[u16]) {
+    print(text);
+    told(b"; accepted: ", Form::Packed, a, rec, committed);
+    print(b"\n");
 }
 
 fn damaged(a: &[u16], rec: &[u8], total: usize, committed: &[u16])
-    requires { ⌜ length (now rec) ≡ recordLimit ⌝ }
+    requires { ⌜ length (now rec) ≡ recordLimitOf Plain ⌝ }
 {
     asked(b"  as it was sent", a, first_bytes(rec, total), committed);
     header_bytes(a, rec, total, committed);
@@ -335,7 +434,7 @@ fn damaged(a: &[u16], rec: &[u8], total: usize, committed: &[u16])
 
 // Sets 1 and 2 differ in their limits alone: with the set of 1 made 2 the record is still accepted.
 fn header_bytes(a: &[u16], rec: &[u8], total: usize, committed: &[u16])
-    requires { ⌜ length (now rec) ≡ recordLimit ⌝ }
+    requires { ⌜ length (now rec) ≡ recordLimitOf Plain ⌝ }
 {
     let first = b"  header, byte 0 more by 1";
     let set = b"  header, the set more by 1";
@@ -346,7 +445,7 @@ fn header_bytes(a: &[u16], rec: &[u8], total: usize, committed: &[u16])
 }
 
 fn section_bytes(a: &[u16], rec: &[u8], total: usize, committed: &[u16])
-    requires { ⌜ length (now rec) ≡ recordLimit ⌝ }
+    requires { ⌜ length (now rec) ≡ recordLimitOf Plain ⌝ }
 {
     let low = b"  z1, low byte of the first entry more by 1";
     let high = b"  z1, high byte of the last entry more by 16";
@@ -357,7 +456,7 @@ fn section_bytes(a: &[u16], rec: &[u8], total: usize, committed: &[u16])
 }
 
 fn list_bytes(a: &[u16], rec: &[u8], total: usize, committed: &[u16])
-    requires { ⌜ length (now rec) ≡ recordLimit ⌝ }
+    requires { ⌜ length (now rec) ≡ recordLimitOf Plain ⌝ }
 {
     let first = b"  list, first place 0 made 1, as the second is";
     let last = b"  list, last place more by 3";
@@ -370,9 +469,9 @@ fn less(n: usize, by: usize) -> usize {
 }
 
 fn more(text: &[u8], a: &[u16], rec: &[u8], total: usize, committed: &[u16], at: usize, by: u8)
-    requires { ⌜ length (now rec) ≡ recordLimit ⌝ }
+    requires { ⌜ length (now rec) ≡ recordLimitOf Plain ⌝ }
 {
-    let mut spoiled = [0u8; Set::RECORD_LIMIT];
+    let mut spoiled = [0u8; record_forms::RECORD_LIMIT];
     byte_codes::copy(rec, &mut spoiled);
     raise(&mut spoiled, at, by);
     asked(text, a, first_bytes(&spoiled, total), committed);
@@ -420,7 +519,8 @@ fn others(a: &[u16], rec: &[u8], committed: &[u16]) {
 
 fn asked(text: &[u8], a: &[u16], rec: &[u8], committed: &[u16]) {
     print(text);
-    told(a, rec, committed);
+    told(b"; accepted: ", Form::Plain, a, rec, committed);
+    print(b"\n");
 }
 
 // ---- text

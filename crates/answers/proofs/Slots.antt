@@ -43,6 +43,32 @@ module _ {rec z1 z2 list rest : Type 0} where
   abbrev pub read-list : rec × (z1 × (z2 × (list × rest))) → list
   read-list lent = lent .1 .1 .1 .0
 
+-- a writer(form, set, z1, z2, list, out)
+module _ {form set z1 z2 list out rest : Type 0} where
+  abbrev pub writer-out : form × (set × (z1 × (z2 × (list × (out × rest))))) → out
+  writer-out lent = lent .1 .1 .1 .1 .1 .0
+
+-- a reader(form, rec, z1, z2, list)
+module _ {form rec z1 z2 list rest : Type 0} where
+  abbrev pub reader-z1 : form × (rec × (z1 × (z2 × (list × rest)))) → z1
+  reader-z1 lent = lent .1 .1 .0
+
+  abbrev pub reader-z2 : form × (rec × (z1 × (z2 × (list × rest)))) → z2
+  reader-z2 lent = lent .1 .1 .1 .0
+
+  abbrev pub reader-list : form × (rec × (z1 × (z2 × (list × rest)))) → list
+  reader-list lent = lent .1 .1 .1 .1 .0
+
+-- convert(from, to, rec, out)
+module _ {from to rec out rest : Type 0} where
+  abbrev pub convert-out : from × (to × (rec × (out × rest))) → out
+  convert-out lent = lent .1 .1 .1 .0
+
+-- pack(rec, out), unpack(rec, out)
+module _ {rec out rest : Type 0} where
+  abbrev pub conversion-out : rec × (out × rest) → out
+  conversion-out lent = lent .1 .0
+
 -- a section call(rec, number, place)
 module _ {rec number place rest : Type 0} where
   abbrev pub section-number : rec × (number × (place × rest)) → number

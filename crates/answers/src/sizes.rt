@@ -1,7 +1,7 @@
-// The sizes of a set, for a caller that holds no table of the sets (01, "Parameters" and "The record").
+// The size of a list, for a caller that holds no table of the sets (01, "Parameters").
 ghost use mathlib.Core.Path.{_≡_};
-ghost use Rattle.sets.specs.Numbers.{kappaOf, totalOf};
-ghost use Rattle.answers.specs.Sizes.{kappaAsked, recordBytesAsked};
+ghost use Rattle.sets.specs.Numbers.{kappaOf};
+ghost use Rattle.answers.specs.Sizes.{kappaAsked};
 use sets::Asked;
 use sets::Set;
 
@@ -15,24 +15,8 @@ pub fn kappa(set: u32) -> u32
     }
 }
 
-// The bytes of a record of that set.
-pub fn record_bytes(set: u32) -> u32
-    ensures { λ r. ⌜ r ≡ recordBytesAsked set ⌝ }
-{
-    match Set::asked(set) {
-        Asked::Unknown => 0,
-        Asked::Known(s) => record_bytes_of(s),
-    }
-}
-
 fn kappa_of(s: Set) -> u32
     ensures { λ r. ⌜ r ≡ kappaOf s ⌝ }
 {
     s.kappa() as u32
-}
-
-fn record_bytes_of(s: Set) -> u32
-    ensures { λ r. ⌜ r ≡ totalOf s ⌝ }
-{
-    s.total() as u32
 }

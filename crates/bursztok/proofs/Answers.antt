@@ -13,6 +13,7 @@ use Rattle.answers.specs.declared.Outcome.the-variants.{Done, HeaderMalformed}
 use Rattle.answers.specs.Outcomes.{Filled, filled}
 use Rattle.commitment.specs.Commitment.{WithRests, withRests}
 use Rattle.signing.specs.Response.{Responded, responded}
+use Rattle.record_forms.specs.declared.Form.the-variants.{Plain}
 use Rattle.record_forms.specs.declared.Header.{Header}
 use Rattle.record_forms.specs.declared.Header.the-variants.{States, Malformed}
 use Rattle.record_forms.specs.Headers.{headerIn, opened}
@@ -56,7 +57,7 @@ module _ (from to : ℕ) (at : ℕ × ℕ) (rec : List ℕ) (p : ℕ × ℕ) (by
   unfolding sectionOf
   located-at r q e =
       ap (λ (x : Part). located x n m) q
-      ∙ ap (λ (k : ℕ). located (record { start = k; length = length bytes }) n m) (start-in (headerIn rec) e)
+      ∙ ap (λ (k : ℕ). located (record { start = k; length = length bytes }) n m) (start-in (headerIn Plain rec) e)
       ∙ ap (locatedBy at) e
 
 pub ruleset exports = (needs, answer-at, left-at, rests-left-at, replied-at, stored-at, located-at)

@@ -5,7 +5,7 @@ use Prim.Native.Nat.{ℕ}
 use contract.Lifetimes.{Lfts}
 use denote.Ref.{now}
 use lib.IntN.{ℤ}
-use Rattle.answers.proofs.Slots.{commitment-out, with-rests-out, with-rests-rests, response-z1, response-z2, rebuild-out, write-out, read-z1, read-z2, read-list, section-number, section-place}
+use Rattle.answers.proofs.Slots.{commitment-out, with-rests-out, with-rests-rests, response-z1, response-z2, rebuild-out, write-out, read-z1, read-z2, read-list, conversion-out, section-number, section-place}
 use Rattle.bursztok.specs.declared.Answer.{Answer}
 use Rattle.bursztok.specs.declared.Response.{Response}
 use Rattle.bursztok.specs.declared.Reading.{Reading}
@@ -21,11 +21,16 @@ use Rattle.bursztok.proofs.bursztok_rebuild_default_one.Reads as rebuil
 use Rattle.bursztok.proofs.bursztok_compare_default_one.Reads as compare-default-one
 use Rattle.bursztok.proofs.bursztok_write.Reads as write
 use Rattle.bursztok.proofs.bursztok_read.Reads as read
+use Rattle.bursztok.proofs.bursztok_write_packed.Reads as write-packed
+use Rattle.bursztok.proofs.bursztok_read_packed.Reads as read-packed
+use Rattle.bursztok.proofs.bursztok_pack.Reads as pack
+use Rattle.bursztok.proofs.bursztok_unpack.Reads as unpack
 use Rattle.bursztok.proofs.bursztok_z1_section.Reads as z1-section
 use Rattle.bursztok.proofs.bursztok_z2_section.Reads as z2-section
 use Rattle.bursztok.proofs.bursztok_list_section.Reads as list-section
 use Rattle.bursztok.proofs.bursztok_kappa.Reads as kappa
 use Rattle.bursztok.proofs.bursztok_record_bytes.Reads as record-bytes
+use Rattle.bursztok.proofs.bursztok_packed_bytes.Reads as packed-bytes
 
 -- what an export leaves behind is all in one value
 one-left : {r r′ : Answer} {l l′ : List ℕ} (w : Left) → left r l ≡ w → left r′ l′ ≡ w → (r ≡ r′) × (l ≡ l′)
@@ -87,6 +92,23 @@ pub read-determined : (κs : Lfts 4) (a : _) (r r′ : _) (s s′ : _) → read.
     → (r ≡ r′) × (now (read-z1 s) ≡ now (read-z1 s′)) × (now (read-z2 s) ≡ now (read-z2 s′)) × (now (read-list s) ≡ now (read-list s′))
 read-determined κs a r r′ s s′ p q = one-stored _ p q
 
+pub write-packed-determined : (κs : Lfts 4) (a : _) (r r′ : _) (s s′ : _) → write-packed.Post κs a r s → write-packed.Post κs a r′ s′
+    → (r ≡ r′) × (now (write-out s) ≡ now (write-out s′))
+write-packed-determined κs a r r′ s s′ p q = one-left _ p q
+
+pub read-packed-determined : (κs : Lfts 4) (a : _) (r r′ : _) (s s′ : _) → read-packed.Post κs a r s → read-packed.Post κs a r′ s′
+    → (r ≡ r′) × (now (read-z1 s) ≡ now (read-z1 s′)) × (now (read-z2 s) ≡ now (read-z2 s′)) × (now (read-list s) ≡ now (read-list s′))
+read-packed-determined κs a r r′ s s′ p q = one-stored _ p q
+
+-- the answer and the output
+pub pack-determined : (κs : Lfts 2) (a : _) (r r′ : _) (s s′ : _) → pack.Post κs a r s → pack.Post κs a r′ s′
+    → (r ≡ r′) × (now (conversion-out s) ≡ now (conversion-out s′))
+pack-determined κs a r r′ s s′ p q = one-left _ p q
+
+pub unpack-determined : (κs : Lfts 2) (a : _) (r r′ : _) (s s′ : _) → unpack.Post κs a r s → unpack.Post κs a r′ s′
+    → (r ≡ r′) × (now (conversion-out s) ≡ now (conversion-out s′))
+unpack-determined κs a r r′ s s′ p q = one-left _ p q
+
 -- the part, the number and the place
 pub z1-section-determined : (κs : Lfts 3) (a : _) (r r′ : _) (s s′ : _) → z1-section.Post κs a r s → z1-section.Post κs a r′ s′
     → (r ≡ r′) × (now (section-number s) ≡ now (section-number s′)) × (now (section-place s) ≡ now (section-place s′))
@@ -105,3 +127,6 @@ kappa-determined κs a r r′ s s′ p q = p ∙ sym q
 
 pub record-bytes-determined : (κs : Lfts 0) (a : _) (r r′ : _) (s s′ : _) → record-bytes.Post κs a r s → record-bytes.Post κs a r′ s′ → r ≡ r′
 record-bytes-determined κs a r r′ s s′ p q = p ∙ sym q
+
+pub packed-bytes-determined : (κs : Lfts 0) (a : _) (r r′ : _) (s s′ : _) → packed-bytes.Post κs a r s → packed-bytes.Post κs a r′ s′ → r ≡ r′
+packed-bytes-determined κs a r r′ s s′ p q = p ∙ sym q

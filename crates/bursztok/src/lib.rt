@@ -1,16 +1,20 @@
 // The C library: each export is its call, with the answer as numbers. include/bursztok.h declares the same names for C.
 ghost use mathlib.Core.Path.{_≡_};
-ghost use Rattle.answers.specs.Sizes.{kappaAsked, recordBytesAsked};
+ghost use Rattle.answers.specs.Sizes.{kappaAsked};
 ghost use Rattle.keys.specs.Key.{keyTest};
 ghost use Rattle.commitment.specs.Commitment.{commitment, outputs, commitmentWithRests};
 ghost use Rattle.signing.specs.Response.{response};
 ghost use Rattle.checking.specs.Checking.{claim, rebuild, rebuildDefaultOne, comparison, comparisonDefaultOne};
+ghost use Rattle.record_forms.specs.declared.Form.the-variants.{Plain, Packed};
+ghost use Rattle.record_forms.specs.Sizes.{recordBytesAsked};
 ghost use Rattle.record_forms.specs.Sections.{z1Section, z2Section, listSection};
-ghost use Rattle.records.specs.Writer.{writingOf};
-ghost use Rattle.records.specs.Reader.{readingOf};
+ghost use Rattle.records.specs.Writer.{offered, writingOf};
+ghost use Rattle.records.specs.Reader.{buffers, readingOf};
+ghost use Rattle.records.specs.Conversion.{conversionOf};
 ghost use lib.ListN.{length};
 ghost use Rattle.bursztok.specs.Exports.{answerOf, left, leftBy, leftWithRests, leftWithRestsBy, responseWith, replied, repliedBy, readingWith, stored, storedBy, partAt, located, locatedBy};
 use answers::Outcome;
+use record_forms::Form;
 use record_forms::LIST_OFFSET;
 use record_forms::Z1_OFFSET;
 use record_forms::Z2_OFFSET;
@@ -163,9 +167,9 @@ pub extern "C" fn bursztok_write(
     list: &[u16],
     out: &mut [u8],
 ) -> Answer
-    ensures { λ r. ⌜ left r (now (out .exit)) ≡ leftBy (writingOf set (now (z1 .entry)) (now (z2 .entry)) (now (list .entry)) (now (out .entry))) ⌝ }
+    ensures { λ r. ⌜ left r (now (out .exit)) ≡ leftBy (writingOf Plain (offered set (now (z1 .entry)) (now (z2 .entry)) (now (list .entry))) (now (out .entry))) ⌝ }
 {
-    answered(records::write(set, z1, z2, list, out))
+    answered(records::write(Form::Plain, set, z1, z2, list, out))
 }
 
 #[no_mangle]
@@ -175,9 +179,49 @@ pub extern "C" fn bursztok_read(
     z2: &mut [i8],
     list: &mut [u16],
 ) -> Reading
-    ensures { λ r. ⌜ stored r (now (z1 .exit)) (now (z2 .exit)) (now (list .exit)) ≡ storedBy (readingOf (now (rec .entry)) (now (z1 .entry)) (now (z2 .entry)) (now (list .entry))) ⌝ }
+    ensures { λ r. ⌜ stored r (now (z1 .exit)) (now (z2 .exit)) (now (list .exit)) ≡ storedBy (readingOf Plain (now (rec .entry)) (buffers (now (z1 .entry)) (now (z2 .entry)) (now (list .entry)))) ⌝ }
 {
-    read_answer(records::read(rec, z1, z2, list))
+    read_answer(records::read(Form::Plain, rec, z1, z2, list))
+}
+
+// The packed form, and the conversions to it and from it (02, C-11).
+#[no_mangle]
+pub extern "C" fn bursztok_write_packed(
+    set: u32,
+    z1: &[i16],
+    z2: &[i8],
+    list: &[u16],
+    out: &mut [u8],
+) -> Answer
+    ensures { λ r. ⌜ left r (now (out .exit)) ≡ leftBy (writingOf Packed (offered set (now (z1 .entry)) (now (z2 .entry)) (now (list .entry))) (now (out .entry))) ⌝ }
+{
+    answered(records::write(Form::Packed, set, z1, z2, list, out))
+}
+
+#[no_mangle]
+pub extern "C" fn bursztok_read_packed(
+    rec: &[u8],
+    z1: &mut [i16],
+    z2: &mut [i8],
+    list: &mut [u16],
+) -> Reading
+    ensures { λ r. ⌜ stored r (now (z1 .exit)) (now (z2 .exit)) (now (list .exit)) ≡ storedBy (readingOf Packed (now (rec .entry)) (buffers (now (z1 .entry)) (now (z2 .entry)) (now (list .entry)))) ⌝ }
+{
+    read_answer(records::read(Form::Packed, rec, z1, z2, list))
+}
+
+#[no_mangle]
+pub extern "C" fn bursztok_pack(rec: &[u8], out: &mut [u8]) -> Answer
+    ensures { λ r. ⌜ left r (now (out .exit)) ≡ leftBy (conversionOf Plain Packed (now (rec .entry)) (now (out .entry))) ⌝ }
+{
+    answered(records::convert(Form::Plain, Form::Packed, rec, out))
+}
+
+#[no_mangle]
+pub extern "C" fn bursztok_unpack(rec: &[u8], out: &mut [u8]) -> Answer
+    ensures { λ r. ⌜ left r (now (out .exit)) ≡ leftBy (conversionOf Packed Plain (now (rec .entry)) (now (out .entry))) ⌝ }
+{
+    answered(records::convert(Form::Packed, Form::Plain, rec, out))
 }
 
 #[no_mangle]
@@ -260,10 +304,17 @@ pub extern "C" fn bursztok_kappa(set: u32) -> u32
     answers::sizes::kappa(set)
 }
 
-// The bytes of a record of that set.
+// The bytes of a record of that set, and of a packed one.
 #[no_mangle]
 pub extern "C" fn bursztok_record_bytes(set: u32) -> u32
-    ensures { λ r. ⌜ r ≡ recordBytesAsked set ⌝ }
+    ensures { λ r. ⌜ r ≡ recordBytesAsked Plain set ⌝ }
 {
-    answers::sizes::record_bytes(set)
+    record_forms::sizes::record_bytes(Form::Plain, set)
+}
+
+#[no_mangle]
+pub extern "C" fn bursztok_packed_bytes(set: u32) -> u32
+    ensures { λ r. ⌜ r ≡ recordBytesAsked Packed set ⌝ }
+{
+    record_forms::sizes::record_bytes(Form::Packed, set)
 }

@@ -1,6 +1,5 @@
--- Laws of numbers as bytes: whole numbers in two's complement (`Complement`), numbers and sections there and back (`Sections`, `WholeNumbers`), the loops
+-- Laws of numbers as bytes: whole numbers in two's complement (`Complement`), lengths and entries of sections (`Sections`), the loops
 -- over a section (`Packing`).
 pub mod Complement
 pub mod Sections
-pub mod WholeNumbers
 pub mod Packing

@@ -1,12 +1,11 @@
--- Numbers and sections as bytes: lengths, entries, and the way there and back, once for every width. Assumes nothing.
-use mathlib.Core.Path.{_≡_, refl, sym, ap, ap₂, _∙_}
+-- Numbers and sections as bytes: lengths and entries, once for every width. The way there and back is that of entries of any width in bits (bit_codes). Assumes nothing.
+use mathlib.Core.Path.{_≡_, refl, sym, ap, _∙_}
 use mathlib.Core.List.{List, [], _∷_, _++_}
-use Prim.Native.Nat.{ℕ, zero, suc, _+_, _*_, _-_, _/_, _%_, _^_, _<_}
-use native.Mathlib.Nat.{pow-succ', one-le-pow, not-suc-le-zero, le-of-suc-le-suc, suc-ne-zero, mul-suc, mul-zero, zero-add}
+use Prim.Native.Nat.{ℕ, zero, suc, _+_, _*_, _-_, _/_, _<_}
+use native.Mathlib.Nat.{not-suc-le-zero, le-of-suc-le-suc, mul-suc, mul-zero, zero-add}
 use native.Mathlib.Omega.{arith}
-use lib.Dec.{lit<}
-use lib.ListN.{length, take, drop, getD, length-append, length-drop, take-append-drop, List·getD-append}
-use lib.Seq.{take-at, drop-at, drop-drop, getD-append-add, getD-drop, length-take-le}
+use lib.ListN.{length, take, drop, getD, length-append, List·getD-append}
+use lib.Seq.{drop-drop, getD-append-add}
 use Rattle.byte_codes.specs.Bytes.{bytesOf, numberIn, packed, unpacked}
 
 -- ---- bytes
@@ -21,38 +20,6 @@ pub length-bytes : (width x : ℕ) → length (bytesOf width x) ≡ width
 unfolding bytesOf
 length-bytes zero x = refl
 length-bytes (suc width) x = ap suc (length-bytes width (x / 256))
-
--- back from its bytes
-pub number-bytes : (width x : ℕ) → x < 256 ^ width → numberIn (bytesOf width x) ≡ x
-unfolding bytesOf numberIn
-number-bytes zero x h = omega arith
-number-bytes (suc width) x h =
-    let less : x < 256 * 256 ^ width = rw (pow-succ' 256 width) at h in
-    let higher : x / 256 < 256 ^ width = omega arith in
-    omega (arith, number-bytes width (x / 256) higher)
-
--- bytes are those of the number that they make
-pub bytes-number : (bytes : List ℕ) → ((k : ℕ) → getD bytes k 0 < 256) → bytesOf (length bytes) (numberIn bytes) ≡ bytes
-unfolding bytesOf numberIn
-bytes-number [] small = refl
-bytes-number (b ∷ bytes) small =
-    ap₂ _∷_ (digit (numberIn bytes) (small 0)) (ap (bytesOf (length bytes)) (rest (numberIn bytes) (small 0)) ∙ bytes-number bytes (λ k. small (suc k)))
-  where
-    digit : (n : ℕ) → b < 256 → (b + 256 * n) % 256 ≡ b
-    digit n h = omega arith
-
-    rest : (n : ℕ) → b < 256 → (b + 256 * n) / 256 ≡ n
-    rest n h = omega arith
-
--- the number of `width` bytes, or of fewer
-number-below : (width : ℕ) (bytes : List ℕ) → ((k : ℕ) → getD bytes k 0 < 256) → numberIn (take width bytes) < 256 ^ width
-unfolding numberIn
-number-below zero bytes small = lit< tt
-number-below (suc width) [] small = one-le-pow (suc width) 256 (lit< tt)
-number-below (suc width) (b ∷ bytes) small =
-    let rest = number-below width bytes (λ k. small (suc k)) in
-    let first = small 0 in
-    rw (pow-succ' 256 width) (omega arith)
 
 -- ---- a section
 module _ (width : ℕ) where
@@ -94,36 +61,3 @@ module _ (width : ℕ) where
     where
       step : (n : ℕ) → width + width * i ≡ width * suc i
       step n = rw (mul-suc width i) (omega arith)
-
-  pub unpacked-below : (count : ℕ) (bytes : List ℕ) → ((k : ℕ) → getD bytes k 0 < 256) → (k : ℕ) → getD (unpacked width count bytes) k 0 < 256 ^ width
-  unfolding unpacked
-  unpacked-below zero bytes small k = one-le-pow width 256 (lit< tt)
-  unpacked-below (suc count) bytes small zero = number-below width bytes small
-  unpacked-below (suc count) bytes small (suc k) = unpacked-below count (drop width bytes) (λ j. rw (getD-drop width bytes j 0) (small (width + j))) k
-
-  -- back from its bytes
-  pub unpacked-packed : (entries : List ℕ) → ((k : ℕ) → getD entries k 0 < 256 ^ width) → unpacked width (length entries) (packed width entries) ≡ entries
-  unfolding packed unpacked
-  unpacked-packed [] small = refl
-  unpacked-packed (x ∷ entries) small =
-      ap₂ _∷_
-      (ap numberIn (take-at (bytesOf width x) (packed width entries) width (length-bytes width x)) ∙ number-bytes width x (small 0))
-      (ap (unpacked width (length entries)) (drop-at (bytesOf width x) (packed width entries) width (length-bytes width x))
-      ∙ unpacked-packed entries (λ k. small (suc k)))
-
-  -- bytes are those of the section that they make
-  pub packed-unpacked : (count : ℕ) (bytes : List ℕ) → length bytes ≡ width * count → ((k : ℕ) → getD bytes k 0 < 256) → packed width (unpacked width count bytes) ≡ bytes
-  unfolding packed unpacked
-  packed-unpacked zero bytes long small = sym (empty bytes (long ∙ mul-zero width))
-    where
-      empty : (l : List ℕ) → length l ≡ 0 → l ≡ []
-      empty [] e = refl
-      empty (x ∷ l) e = absurd (suc-ne-zero (length l) e)
-  packed-unpacked (suc count) bytes long small =
-      let whole : length bytes ≡ width + width * count = long ∙ rw (mul-suc width count) (omega arith) in
-      let front-long : length (take width bytes) ≡ width = length-take-le width bytes (omega arith) in
-      let rest-long : length (drop width bytes) ≡ width * count = length-drop width bytes ∙ omega arith in
-      ap₂ _++_
-      (ap (λ (n : ℕ). bytesOf n (numberIn (take width bytes))) (sym front-long) ∙ bytes-number (take width bytes) (take-small width bytes small))
-      (packed-unpacked count (drop width bytes) rest-long (λ k. rw (getD-drop width bytes k 0) (small (width + k))))
-      ∙ take-append-drop width bytes

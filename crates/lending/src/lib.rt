@@ -145,7 +145,9 @@ pub fn rebuild_default_one(
     bursztok::bursztok_rebuild_default_one(set, a, z1, z2, list, &mut out[..lent])
 }
 
+// A record, packed or plain.
 pub fn write(
+    packed: bool,
     set: u32,
     z1: &[i16],
     z2: &[i8],
@@ -154,10 +156,18 @@ pub fn write(
     count: usize,
 ) -> Answer {
     let lent = least(count, out.len());
-    bursztok::bursztok_write(set, z1, z2, list, &mut out[..lent])
+    written(packed, set, z1, z2, list, &mut out[..lent])
+}
+
+fn written(packed: bool, set: u32, z1: &[i16], z2: &[i8], list: &[u16], out: &mut [u8]) -> Answer {
+    if packed {
+        return bursztok::bursztok_write_packed(set, z1, z2, list, out);
+    }
+    bursztok::bursztok_write(set, z1, z2, list, out)
 }
 
 pub fn read(
+    packed: bool,
     rec: &[u8],
     z1: &mut [i16],
     z1_count: usize,
@@ -169,12 +179,33 @@ pub fn read(
     let z1_lent = least(z1_count, z1.len());
     let z2_lent = least(z2_count, z2.len());
     let list_lent = least(list_count, list.len());
-    bursztok::bursztok_read(
+    read_to(
+        packed,
         rec,
         &mut z1[..z1_lent],
         &mut z2[..z2_lent],
         &mut list[..list_lent],
     )
+}
+
+fn read_to(packed: bool, rec: &[u8], z1: &mut [i16], z2: &mut [i8], list: &mut [u16]) -> Reading {
+    if packed {
+        return bursztok::bursztok_read_packed(rec, z1, z2, list);
+    }
+    bursztok::bursztok_read(rec, z1, z2, list)
+}
+
+// A plain record as a packed one, or a packed one as a plain one.
+pub fn convert(packing: bool, rec: &[u8], out: &mut [u8], count: usize) -> Answer {
+    let lent = least(count, out.len());
+    converted(packing, rec, &mut out[..lent])
+}
+
+fn converted(packing: bool, rec: &[u8], out: &mut [u8]) -> Answer {
+    if packing {
+        return bursztok::bursztok_pack(rec, out);
+    }
+    bursztok::bursztok_unpack(rec, out)
 }
 
 fn least(x: usize, y: usize) -> usize

@@ -15,7 +15,7 @@ use Rattle.laws.proofs.Loops.{is-same}
 use Rattle.laws.proofs.Entries.{length-zipWith, getD-zipWith, getD-map}
 use Rattle.sets.specs.declared.Set.{Set}
 use Rattle.sets.specs.declared.Asked.the-variants.{Known}
-use Rattle.sets.specs.Numbers.{dimension, modulus, twiceModulus, places, totalOf, askedOf}
+use Rattle.sets.specs.Numbers.{dimension, modulus, twiceModulus, askedOf}
 use Rattle.answers.specs.declared.Outcome.{Outcome}
 use Rattle.answers.specs.declared.Outcome.the-variants.{Done}
 use Rattle.answers.specs.Outcomes.{numberOf, filled}
@@ -30,8 +30,8 @@ use Rattle.keys.specs.Key.{isResidue, second}
 use Rattle.keys.proofs.Ranges.{a-residues}
 use Rattle.commitment.specs.Commitment.{areMasks, sums, committed, tested, commitment}
 use Rattle.commitment.proofs.Sums.{length-sums}
-use Rattle.vectors.specs.Pairs.{Pair, pair}
-use Rattle.choices.specs.Choices.{addedIf, choices}
+use Rattle.vectors.specs.Pairs.{Pair}
+use Rattle.choices.specs.Choices.{addedIf}
 use Rattle.choices.proofs.Bound.{choices-sized, choices-bound}
 use Rattle.choices.proofs.Pairs.{Sized}
 use Rattle.choices.proofs.Parity.{choices-odd, choices-even}
@@ -41,8 +41,10 @@ use Rattle.signing.specs.Response.{Lent, secret, responded, responseFor, respon
 use Rattle.signing.proofs.Ways.{are-sized}
 use Rattle.checking.specs.Checking.{claim, marks, rebuilt, rebuild, comparison}
 use Rattle.checking.proofs.Marks.{length-marks, getD-marks}
+use Rattle.record_forms.specs.declared.Form.{Form}
+use Rattle.record_forms.specs.Forms.{totalOf}
 use Rattle.records.specs.Signatures.{signature, recordOf, refusalOf}
-use Rattle.records.specs.Writer.{writingFor, writingOf}
+use Rattle.records.specs.Writer.{putTo, recordedTo, writingFor, offered, writingOf}
 use Rattle.promises.specs.Demands.{ResponseLength, GivenOutIsAccepted, ReachesTheDraw, Demand3}
 use Rattle.promises.proofs.Keys.{key-carries, key-sized, passing, second-parity}
 use Rattle.promises.proofs.Sums.{sums-at}
@@ -167,11 +169,11 @@ module _ (set : ℕ) (s : Set) (known : askedOf set ≡ Known s) (a : List ℕ) 
       rw (known, sized-yes a la, sized-yes z1 lz1, sized-yes z2 lz2, sized-yes out lo, residues, proper, rule)
 
 -- the writer, where nothing is to be refused
-writes-done : (set : ℕ) (s : Set) (z1 z2 : List ℤ) (l out : List ℕ) → askedOf set ≡ Known s → length z1 ≡ dimension → length z2 ≡ dimension
-    → properList s l ≡ true → lengthRule s z1 z2 ≡ Done → totalOf s ≤ length out
-    → writingOf set z1 z2 l out ≡ filled Done (recordOf (signature s z1 z2 l) ++ drop (totalOf s) out)
-unfolding writingOf writingFor refusalOf
-writes-done set s z1 z2 l out known l1 l2 proper rule room = rw (known, eq-eqb _ _ l1, eq-eqb _ _ l2, proper, rule, le-leb _ _ room)
+writes-done : (form : Form) (set : ℕ) (s : Set) (z1 z2 : List ℤ) (l out : List ℕ) → askedOf set ≡ Known s → length z1 ≡ dimension → length z2 ≡ dimension
+    → properList s l ≡ true → lengthRule s z1 z2 ≡ Done → totalOf form s ≤ length out
+    → writingOf form (offered set z1 z2 l) out ≡ filled Done (recordOf form (signature s z1 z2 l) ++ drop (totalOf form s) out)
+unfolding writingOf writingFor recordedTo putTo refusalOf
+writes-done form set s z1 z2 l out known l1 l2 proper rule room = rw (known, eq-eqb _ _ l1, eq-eqb _ _ l2, proper, rule, le-leb _ _ room)
 
 -- ---- the second sentence
 pub given-out-is-accepted : GivenOutIsAccepted
@@ -197,15 +199,15 @@ given-out-is-accepted set c o count z1 z2 before old e zero lb lo =
     )
 
 -- the writer makes its record
-pub given-out-is-written : (set : ℕ) (s : Set) (c : Lent) (o : Outcome) (count : ℕ) (z1 z2 : List ℤ) (out : List ℕ) → response set c ≡ responded o count z1 z2
-    → numberOf o ≡ 0 → askedOf set ≡ Known s → totalOf s ≤ length out
-    → writingOf set z1 z2 (c .list) out ≡ filled Done (recordOf (signature s z1 z2 (c .list)) ++ drop (totalOf s) out)
-given-out-is-written set s c o count z1 z2 out e zero known room =
+pub given-out-is-written : (form : Form) (set : ℕ) (s : Set) (c : Lent) (o : Outcome) (count : ℕ) (z1 z2 : List ℤ) (out : List ℕ) → response set c ≡ responded o count z1 z2
+    → numberOf o ≡ 0 → askedOf set ≡ Known s → totalOf form s ≤ length out
+    → writingOf form (offered set z1 z2 (c .list)) out ≡ filled Done (recordOf form (signature s z1 z2 (c .list)) ++ drop (totalOf form s) out)
+given-out-is-written form set s c o count z1 z2 out e zero known room =
     let given = given-out c count z1 z2 set (e ∙ ap (λ (p : Outcome). responded p count z1 z2) (zero-is o zero)) in
     let own : given .0 ≡ s = let asked = given .1 in cc in
     let passed = given .2 in
     let sent = given .3 in
-    writes-done set s z1 z2 (c .list) out known (ap length (sent .first) ∙ z-first (given .0) c passed) (ap length (sent .dagger) ∙ daggers-512 (given .0) c passed)
+    writes-done form set s z1 z2 (c .list) out known (ap length (sent .first) ∙ z-first (given .0) c passed) (ap length (sent .dagger) ∙ daggers-512 (given .0) c passed)
     (rw own at (passed .list)) (rw own at (sent .rule)) room
 
 -- ---- the premises of both

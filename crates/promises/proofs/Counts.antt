@@ -32,8 +32,10 @@ use Rattle.signing.specs.Response.{Lent, secret, Drawing, drawing, Responded, r
 use Rattle.checking.specs.Checking.{Claim, rebuild, comparison}
 use Rattle.record_forms.specs.Sections.{Fetched, fetched, sectionOf}
 use Rattle.records.specs.Signatures.{Signature, refusalOf}
-use Rattle.records.specs.Writer.{writingFor, writingOf}
-use Rattle.records.specs.Reader.{Found, found, readingFor, readingOf}
+use Rattle.record_forms.specs.declared.Form.{Form}
+use Rattle.records.specs.Writer.{putTo, recordedTo, writingFor, Offered, writingOf}
+use Rattle.records.specs.Reader.{Found, found, Buffers, readingFor, readingOf}
+use Rattle.records.specs.Conversion.{conversionOf}
 use Rattle.promises.specs.Counts.{Counts, KeyPasses, KeyLength, KeyWithinLimit, largestFirst, LimitReached, NoKeyTooLong}
 use Rattle.promises.proofs.Keys.{key-counts, key-related, key-tested-some}
 use Rattle.promises.proofs.Agreement.{sized-yes}
@@ -274,13 +276,17 @@ rebuild-holds : (set : ℕ) (a : List ℕ) (c : Claim) (out : List ℕ) → Hold
 unfolding rebuild
 rebuild-holds set a c out = search others depth 10
 
-writer-holds : (set : ℕ) (z1 z2 : List ℤ) (l out : List ℕ) → Holds (NotSeven ofFilled) (writingOf set z1 z2 l out)
-unfolding writingOf writingFor
-writer-holds set z1 z2 l out = search others depth 10
+writer-holds : (form : Form) (a : Offered) (out : List ℕ) → Holds (NotSeven ofFilled) (writingOf form a out)
+unfolding writingOf writingFor recordedTo putTo
+writer-holds form a out = search others depth 10
 
-reader-holds : (rec : List ℕ) (out1 out2 : List ℤ) (out3 : List ℕ) → Holds (NotSeven ofReading) (readingOf rec out1 out2 out3)
+reader-holds : (form : Form) (rec : List ℕ) (old : Buffers) → Holds (NotSeven ofReading) (readingOf form rec old)
 unfolding readingOf readingFor
-reader-holds rec out1 out2 out3 = search others depth 10
+reader-holds form rec old = search others depth 10
+
+conversion-holds : (from to : Form) (rec out : List ℕ) → Holds (NotSeven ofFilled) (conversionOf from to rec out)
+unfolding conversionOf recordedTo putTo
+conversion-holds from to rec out = search others depth 10
 
 section-holds : (from to : ℕ) (p : ℕ × ℕ) (rec : List ℕ) → Holds (NotSeven ofSection) (sectionOf from to p rec)
 unfolding sectionOf
@@ -294,7 +300,8 @@ no-key-too-long = record {
   commitments-with-rests = λ set a y1 y2 old o digits rests e. subst (NotSeven ofRests) e (with-rests-holds set a y1 y2 old .is);
   rebuilds = λ set a c out o after e. subst (NotSeven ofFilled) e (rebuild-holds set a c out .is);
   comparisons = λ set claimed hashed. comparison-holds set claimed hashed .is;
-  writers = λ set z1 z2 l out o after e. subst (NotSeven ofFilled) e (writer-holds set z1 z2 l out .is);
-  readers = λ rec out1 out2 out3 o set z1 z2 l e. subst (NotSeven ofReading) e (reader-holds rec out1 out2 out3 .is);
+  writers = λ form a out o after e. subst (NotSeven ofFilled) e (writer-holds form a out .is);
+  readers = λ form rec old o set z1 z2 l e. subst (NotSeven ofReading) e (reader-holds form rec old .is);
+  conversions = λ from to rec out o after e. subst (NotSeven ofFilled) e (conversion-holds from to rec out .is);
   sections = λ from to p rec at bytes number place e. subst (NotSeven ofSection) e (section-holds from to p rec .is);
 }

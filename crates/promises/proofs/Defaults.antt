@@ -11,7 +11,7 @@ use Rattle.laws.specs.Lists.{every}
 use Rattle.sets.specs.declared.Set.{Set}
 use Rattle.sets.specs.declared.Set.the-variants.{I, IV}
 use Rattle.sets.specs.declared.Asked.the-variants.{Known}
-use Rattle.sets.specs.Numbers.{dimension, kappaOf, totalOf, askedOf}
+use Rattle.sets.specs.Numbers.{dimension, kappaOf, askedOf}
 use Rattle.sets.proofs.Alike.{asked-back, asked-zero, default-zero, default-other}
 use Rattle.answers.specs.declared.Outcome.{Outcome}
 use Rattle.answers.specs.declared.Outcome.the-variants.{Done, ImproperList}
@@ -25,9 +25,12 @@ use Rattle.commitment.specs.Commitment.{commitment, commitmentWithRests}
 use Rattle.signing.specs.Response.{responded, response}
 use Rattle.checking.specs.Checking.{claim, rebuild, comparison}
 use Rattle.byte_codes.specs.Bytes.{bytesOf}
+use Rattle.record_forms.specs.declared.Form.{Form}
+use Rattle.record_forms.specs.declared.Form.the-variants.{Plain, Packed}
+use Rattle.record_forms.specs.Forms.{totalOf}
 use Rattle.record_forms.specs.Headers.{headerOf}
 use Rattle.records.specs.Signatures.{signature, recordOf}
-use Rattle.records.specs.Writer.{writingOf}
+use Rattle.records.specs.Writer.{offered, writingOf}
 use Rattle.records.proofs.RoundTrip.{written-reads}
 use Rattle.promises.specs.Defaults.{SameCalls, ZeroIsFour, DefaultOne, DefaultOnBothSides, SheetOfOne}
 use Rattle.promises.proofs.Signatures.{given-out}
@@ -44,9 +47,9 @@ module _ (n m : ℕ) (same : askedOf n ≡ askedOf m) where
     responses = λ c. rw same;
     rebuilds = λ a c out. rw same;
     comparisons = λ claimed hashed. rw same;
-    writers = λ z1 z2 l out. rw same;
+    writers = λ form z1 z2 l out. rw same;
     kappas = rw same;
-    records = rw same;
+    records = λ form. rw same;
   }
 
 pub zero-is-four : ZeroIsFour
@@ -67,19 +70,19 @@ the-set : (set : ℕ) (s s′ : Set) → askedOf set ≡ Known s → askedOf set
 the-set set s s′ e f = cc
 
 -- a record of set 4 states it
-states-four : (z1 z2 : List ℤ) (l tail : List ℕ) → getD (recordOf (signature IV z1 z2 l) ++ tail) 4 0 ≡ 4
+states-four : (form : Form) (z1 z2 : List ℤ) (l tail : List ℕ) → getD (recordOf form (signature IV z1 z2 l) ++ tail) 4 0 ≡ 4
 unfolding recordOf headerOf bytesOf
-states-four z1 z2 l tail = refl
+states-four form z1 z2 l tail = elim form [ Plain ↦ refl | Packed ↦ refl ]
 
 pub default-on-both-sides : DefaultOnBothSides
-default-on-both-sides c o count z1 z2 before old out e number lb lo room =
+default-on-both-sides form c o count z1 z2 before old out e number lb lo room =
     let given = given-out c count z1 z2 0 (e ∙ ap (λ (p : Outcome). responded p count z1 z2) (zero-is o number)) in
     let own = the-set 0 (given .0) IV (given .1) asked-zero in
     let accepted = given-out-is-accepted 0 c o count z1 z2 before old e number lb lo in
     let same = the-set 0 (accepted .0) IV (accepted .1) asked-zero in
-    let writes = given-out-is-written 0 IV c o count z1 z2 out e number asked-zero room in
-    let after = recordOf (signature IV z1 z2 (c .list)) ++ drop (totalOf IV) out in
-    let back = written-reads 0 z1 z2 (c .list) out Done after refl writes in
+    let writes = given-out-is-written form 0 IV c o count z1 z2 out e number asked-zero room in
+    let after = recordOf form (signature IV z1 z2 (c .list)) ++ drop (totalOf form IV) out in
+    let back = written-reads form (offered 0 z1 z2 (c .list)) out Done after refl writes in
     let back-own = the-set 0 (back .s) IV (back .asked) asked-zero in (
       same-list 0 IV (c .list) asked-zero (rw own at (given .2 .list)),
       rw same at (accepted .2),
@@ -87,7 +90,7 @@ default-on-both-sides c o count z1 z2 before old out e number lb lo room =
       (
         after,
         (Done, writes, refl),
-        states-four z1 z2 (c .list) (drop (totalOf IV) out),
+        states-four form z1 z2 (c .list) (drop (totalOf form IV) out),
         rw back-own at (back .reads),
       ),
     )

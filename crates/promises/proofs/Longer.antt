@@ -5,7 +5,7 @@ use mathlib.Core.List.{List, map-congr-left}
 use Prim.Native.Nat.{ℕ, _+_, _<_, _≤_}
 use native.Mathlib.Omega.{arith}
 use lib.Dec.{eqb}
-use borrow.Author.Tests.{eqb-true, eq-eqb}
+use borrow.Author.Tests.{eq-eqb}
 use lib.IntN.{ℤ}
 use lib.ListN.{getD}
 use Rattle.laws.specs.Lists.{every, same, tabulate}
@@ -111,9 +111,9 @@ no-set n e = record {
   responses = λ c. rw e;
   rebuilds = λ a c out. (UnknownSet, rw e, refl);
   comparisons = λ claimed hashed. rw e;
-  writers = λ z1 z2 l out. (UnknownSet, rw e, refl);
+  writers = λ form z1 z2 l out. (UnknownSet, rw e, refl);
   kappas = rw e;
-  records = rw e;
+  records = λ form. rw e;
 }
 
 pub set-above : SetAbove

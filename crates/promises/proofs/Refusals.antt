@@ -29,9 +29,11 @@ use Rattle.checking.specs.Checking.{Claim, rebuild}
 use Rattle.record_forms.specs.declared.Header.{Header}
 use Rattle.record_forms.specs.declared.Header.the-variants.{States, Malformed}
 use Rattle.record_forms.specs.Headers.{opened}
-use Rattle.records.specs.Writer.{writingFor, writingOf}
-use Rattle.records.specs.Reader.{Found, found, readingFor, readingOf}
-use Rattle.promises.specs.Demands.{OnlyDone, CommitmentKeeps, CommitmentWithRestsKeeps, RebuildKeeps, RebuildDefaultOneKeeps, ResponseKeeps, WriterKeeps, ReaderKeeps, ResponseCounts}
+use Rattle.record_forms.specs.declared.Form.{Form}
+use Rattle.records.specs.Writer.{putTo, recordedTo, writingFor, Offered, writingOf}
+use Rattle.records.specs.Reader.{Found, found, Buffers, readingFor, readingOf}
+use Rattle.records.specs.Conversion.{conversionOf}
+use Rattle.promises.specs.Demands.{OnlyDone, CommitmentKeeps, CommitmentWithRestsKeeps, RebuildKeeps, RebuildDefaultOneKeeps, ResponseKeeps, WriterKeeps, ReaderKeeps, ConversionKeeps, ResponseCounts}
 
 pub only-done : OnlyDone
 only-done = (refl, zero-is)
@@ -116,12 +118,19 @@ rebuild-keeps set a c out o after e = subst (Keeps filledAnswer filledLeft out) 
 pub rebuild-default-one-keeps : RebuildDefaultOneKeeps
 rebuild-default-one-keeps set = rebuild-keeps (defaultOne set)
 
-writer-holds : (set : ℕ) (z1 z2 : List ℤ) (l out : List ℕ) → Holds (Keeps filledAnswer filledLeft out) (writingOf set z1 z2 l out)
-unfolding writingOf writingFor
-writer-holds set z1 z2 l out = search (ways, ends) depth 10
+writer-holds : (form : Form) (a : Offered) (out : List ℕ) → Holds (Keeps filledAnswer filledLeft out) (writingOf form a out)
+unfolding writingOf writingFor recordedTo putTo
+writer-holds form a out = search (ways, ends) depth 10
 
 pub writer-keeps : WriterKeeps
-writer-keeps set z1 z2 l out o after e = subst (Keeps filledAnswer filledLeft out) e (writer-holds set z1 z2 l out .is)
+writer-keeps form a out o after e = subst (Keeps filledAnswer filledLeft out) e (writer-holds form a out .is)
+
+conversion-holds : (from to : Form) (rec out : List ℕ) → Holds (Keeps filledAnswer filledLeft out) (conversionOf from to rec out)
+unfolding conversionOf recordedTo putTo
+conversion-holds from to rec out = search (ways, ends) depth 10
+
+pub conversion-keeps : ConversionKeeps
+conversion-keeps from to rec out o after e = subst (Keeps filledAnswer filledLeft out) e (conversion-holds from to rec out .is)
 
 -- the reader's set and its three buffers
 abbrev pub foundAnswer : Found → Outcome
@@ -133,13 +142,13 @@ Kept = ℕ × List ℤ × List ℤ × List ℕ
 abbrev foundLeft : Found → Kept
 foundLeft (found o set after1 after2 after3) = (set, after1, after2, after3)
 
-reader-holds : (rec : List ℕ) (out1 out2 : List ℤ) (out3 : List ℕ) → Holds (Keeps foundAnswer foundLeft (0, out1, out2, out3)) (readingOf rec out1 out2 out3)
+reader-holds : (form : Form) (rec : List ℕ) (old : Buffers) → Holds (Keeps foundAnswer foundLeft (0, old .z1, old .z2, old .list)) (readingOf form rec old)
 unfolding readingOf readingFor
-reader-holds rec out1 out2 out3 = search (ways, ends) depth 10
+reader-holds form rec old = search (ways, ends) depth 10
 
 pub reader-keeps : ReaderKeeps
-reader-keeps rec out1 out2 out3 o set after1 after2 after3 e n =
-    let same = subst (Keeps foundAnswer foundLeft (0, out1, out2, out3)) e (reader-holds rec out1 out2 out3 .is) n in
+reader-keeps form rec old o set after1 after2 after3 e n =
+    let same = subst (Keeps foundAnswer foundLeft (0, old .z1, old .z2, old .list)) e (reader-holds form rec old .is) n in
     (ap (λ (x : Kept). x .0) same, ap (λ (x : Kept). x .1) same, ap (λ (x : Kept). x .2) same, ap (λ (x : Kept). x .3) same)
 
 -- the response's two vectors

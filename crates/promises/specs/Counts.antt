@@ -18,8 +18,10 @@ use Rattle.commitment.specs.Commitment.{commitment, Outputs, withRests, commitm
 use Rattle.signing.specs.Response.{Lent, responded, response}
 use Rattle.checking.specs.Checking.{Claim, rebuild, comparison}
 use Rattle.record_forms.specs.Sections.{fetched, sectionOf}
-use Rattle.records.specs.Writer.{writingOf}
-use Rattle.records.specs.Reader.{found, readingOf}
+use Rattle.record_forms.specs.declared.Form.{Form}
+use Rattle.records.specs.Writer.{Offered, writingOf}
+use Rattle.records.specs.Reader.{found, Buffers, readingOf}
+use Rattle.records.specs.Conversion.{conversionOf}
 
 -- "f and g each have exactly d1 coefficients of 1 or -1 and exactly d2 of 2 or -2, the rest zero", of one of them
 pub record Counts (s : Set) (f : List ℤ) : Type 0 where
@@ -87,12 +89,16 @@ pub record NoKeyTooLong : Type 0 where
       → NotTooLong o
   pub comparisons : (set : ℕ) (claimed hashed : List ℕ) → NotTooLong (comparison set claimed hashed)
   pub writers :
-      (set : ℕ) (z1 z2 : List ℤ) (l out : List ℕ) (o : Outcome) (after : List ℕ)
-      → writingOf set z1 z2 l out ≡ filled o after
+      (form : Form) (a : Offered) (out : List ℕ) (o : Outcome) (after : List ℕ)
+      → writingOf form a out ≡ filled o after
       → NotTooLong o
   pub readers :
-      (rec : List ℕ) (out1 out2 : List ℤ) (out3 : List ℕ) (o : Outcome) (set : ℕ) (z1 z2 : List ℤ) (l : List ℕ)
-      → readingOf rec out1 out2 out3 ≡ found o set z1 z2 l
+      (form : Form) (rec : List ℕ) (old : Buffers) (o : Outcome) (set : ℕ) (z1 z2 : List ℤ) (l : List ℕ)
+      → readingOf form rec old ≡ found o set z1 z2 l
+      → NotTooLong o
+  pub conversions :
+      (from to : Form) (rec out : List ℕ) (o : Outcome) (after : List ℕ)
+      → conversionOf from to rec out ≡ filled o after
       → NotTooLong o
   pub sections :
       (from to : ℕ) (p : ℕ × ℕ) (rec : List ℕ) (at : ℕ × ℕ) (bytes : List ℕ) (number place : ℕ)

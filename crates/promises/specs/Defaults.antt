@@ -5,16 +5,19 @@ use Prim.Native.Nat.{ℕ, _≤_}
 use lib.IntN.{ℤ}
 use lib.ListN.{length, take, drop, getD}
 use Rattle.sets.specs.declared.Set.the-variants.{I, IV}
-use Rattle.sets.specs.Numbers.{dimension, listLimit, kappaOf, totalOf}
+use Rattle.sets.specs.Numbers.{dimension, listLimit, kappaOf}
 use Rattle.answers.specs.declared.Outcome.{Outcome}
 use Rattle.answers.specs.Outcomes.{numberOf, Filled, filled}
-use Rattle.answers.specs.Sizes.{kappaAsked, recordBytesAsked}
+use Rattle.answers.specs.Sizes.{kappaAsked}
 use Rattle.keys.specs.Key.{keyTest}
 use Rattle.commitment.specs.Commitment.{committed, commitment, Outputs, commitmentWithRests}
 use Rattle.signing.specs.Response.{Lent, responded, response}
 use Rattle.checking.specs.Checking.{Claim, claim, rebuild, rebuildDefaultOne, comparison, comparisonDefaultOne}
-use Rattle.records.specs.Writer.{writingOf}
-use Rattle.records.specs.Reader.{found, readingOf}
+use Rattle.record_forms.specs.declared.Form.{Form}
+use Rattle.record_forms.specs.Forms.{totalOf}
+use Rattle.record_forms.specs.Sizes.{recordBytesAsked}
+use Rattle.records.specs.Writer.{offered, writingOf}
+use Rattle.records.specs.Reader.{found, Buffers, readingOf}
 use Rattle.promises.specs.Demands.{Fills}
 
 -- Two numbers that no call tells apart: every call that takes a set leaves behind the same with either, done or refused, whatever else it is lent.
@@ -25,9 +28,9 @@ pub record SameCalls (n m : ℕ) : Type 0 where
   pub responses : (c : Lent) → response n c ≡ response m c
   pub rebuilds : (a : List ℕ) (c : Claim) (out : List ℕ) → rebuild n a c out ≡ rebuild m a c out
   pub comparisons : (claimed hashed : List ℕ) → comparison n claimed hashed ≡ comparison m claimed hashed
-  pub writers : (z1 z2 : List ℤ) (l out : List ℕ) → writingOf n z1 z2 l out ≡ writingOf m z1 z2 l out
+  pub writers : (form : Form) (z1 z2 : List ℤ) (l out : List ℕ) → writingOf form (offered n z1 z2 l) out ≡ writingOf form (offered m z1 z2 l) out
   pub kappas : kappaAsked n ≡ kappaAsked m
-  pub records : recordBytesAsked n ≡ recordBytesAsked m
+  pub records : (form : Form) → recordBytesAsked form n ≡ recordBytesAsked form m
 
 -- "From this release 0 on a call stands for set 4."
 abbrev pub ZeroIsFour : Type 0
@@ -42,22 +45,23 @@ pub record DefaultOne : Type 0 where
   pub comparison-other : (set : ℕ) (claimed hashed : List ℕ) → (set ≡ 0 → ⊥) → comparisonDefaultOne set claimed hashed ≡ comparison set claimed hashed
 
 -- "Demands 2 and 3 read the same default on both sides": a signature that was asked for with 0 is accepted by a checker that asks with 0, and rebuilds what
--- was committed to with 0; the writer that is asked with 0 makes its record, which states 4 in its byte 4 and reads back as the same signature of set 4.
+-- was committed to with 0; the writer of either form that is asked with 0 makes its record, which states 4 in its byte 4 and reads back as the same
+-- signature of set 4.
 abbrev pub DefaultOnBothSides : Type 0
 DefaultOnBothSides =
-    (c : Lent) (o : Outcome) (count : ℕ) (z1 z2 : List ℤ) (before old out : List ℕ)
+    (form : Form) (c : Lent) (o : Outcome) (count : ℕ) (z1 z2 : List ℤ) (before old out : List ℕ)
     → response 0 c ≡ responded o count z1 z2
     → numberOf o ≡ 0
-    → length before ≡ dimension → length old ≡ dimension → totalOf IV ≤ length out
+    → length before ≡ dimension → length old ≡ dimension → totalOf form IV ≤ length out
     → (numberOf (comparison 0 (c .list) (c .list)) ≡ 0)
     × Fills (commitment 0 (c .a) (c .y1) (c .y2) before) (committed IV (c .a) (c .y1) (c .y2))
     × Fills (rebuild 0 (c .a) (claim z1 z2 (c .list)) old) (committed IV (c .a) (c .y1) (c .y2))
     × ((after : List ℕ)
-    × Fills (writingOf 0 z1 z2 (c .list) out) after
+    × Fills (writingOf form (offered 0 z1 z2 (c .list)) out) after
     × (getD after 4 0 ≡ 4)
-    × ((b1 b2 : List ℤ) (b3 : List ℕ)
-    → length b1 ≡ dimension → length b2 ≡ dimension → length b3 ≡ listLimit
-    → (r : Outcome) × (numberOf r ≡ 0) × (readingOf (take (totalOf IV) after) b1 b2 b3 ≡ found r 4 z1 z2 (c .list ++ drop (kappaOf IV) b3))))
+    × ((b : Buffers)
+    → length (b .z1) ≡ dimension → length (b .z2) ≡ dimension → length (b .list) ≡ listLimit
+    → (r : Outcome) × (numberOf r ≡ 0) × (readingOf form (take (totalOf form IV) after) b ≡ found r 4 z1 z2 (c .list ++ drop (kappaOf IV) (b .list)))))
 
 -- the call answers this number, and the vector holds what it held
 abbrev pub Refuses : ℕ → Filled → List ℕ → Type 0

@@ -20,8 +20,10 @@ use Rattle.choices.specs.Choices.{choices}
 use Rattle.masking.specs.Masking.{masked, firstTrial, secondTrial}
 use Rattle.signing.specs.Response.{Lent, secret, drawing, responded, drawn, response}
 use Rattle.checking.specs.Checking.{Claim, claim, rebuild, rebuildDefaultOne, comparison}
-use Rattle.records.specs.Writer.{writingOf}
-use Rattle.records.specs.Reader.{found, readingOf}
+use Rattle.record_forms.specs.declared.Form.{Form}
+use Rattle.records.specs.Writer.{Offered, writingOf}
+use Rattle.records.specs.Reader.{found, Buffers, readingOf}
+use Rattle.records.specs.Conversion.{conversionOf}
 
 -- ---- demand 1: each refusal "leaves the output buffers with the contents they came with"
 
@@ -68,21 +70,29 @@ ResponseKeeps =
     → (numberOf o ≡ 0 → ⊥)
     → (after1 ≡ c .z1) × (after2 ≡ c .z2)
 
--- the writer's output
+-- the writer's output, in either form
 abbrev pub WriterKeeps : Type 0
 WriterKeeps =
-    (set : ℕ) (z1 z2 : List ℤ) (l out : List ℕ) (o : Outcome) (after : List ℕ)
-    → writingOf set z1 z2 l out ≡ filled o after
+    (form : Form) (a : Offered) (out : List ℕ) (o : Outcome) (after : List ℕ)
+    → writingOf form a out ≡ filled o after
     → (numberOf o ≡ 0 → ⊥)
     → after ≡ out
 
 -- the reader's three buffers; the set is then 0
 abbrev pub ReaderKeeps : Type 0
 ReaderKeeps =
-    (rec : List ℕ) (out1 out2 : List ℤ) (out3 : List ℕ) (o : Outcome) (set : ℕ) (after1 after2 : List ℤ) (after3 : List ℕ)
-    → readingOf rec out1 out2 out3 ≡ found o set after1 after2 after3
+    (form : Form) (rec : List ℕ) (old : Buffers) (o : Outcome) (set : ℕ) (after1 after2 : List ℤ) (after3 : List ℕ)
+    → readingOf form rec old ≡ found o set after1 after2 after3
     → (numberOf o ≡ 0 → ⊥)
-    → (set ≡ 0) × (after1 ≡ out1) × (after2 ≡ out2) × (after3 ≡ out3)
+    → (set ≡ 0) × (after1 ≡ old .z1) × (after2 ≡ old .z2) × (after3 ≡ old .list)
+
+-- a conversion's output
+abbrev pub ConversionKeeps : Type 0
+ConversionKeeps =
+    (from to : Form) (rec out : List ℕ) (o : Outcome) (after : List ℕ)
+    → conversionOf from to rec out ≡ filled o after
+    → (numberOf o ≡ 0 → ⊥)
+    → after ≡ out
 
 -- "The word count is 0 for refusals before the draw; with 9 it is the number of words lent" (01). The refusals before the draw are numbers 1 to 7
 -- and 15

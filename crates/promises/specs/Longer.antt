@@ -5,16 +5,20 @@ use Prim.Native.Nat.{ℕ, _+_, _<_, _≤_}
 use lib.IntN.{ℤ}
 use Rattle.sets.specs.declared.Set.{Set}
 use Rattle.sets.specs.declared.Asked.the-variants.{Known}
-use Rattle.sets.specs.Numbers.{all, dOf, pOf, largestOf, boundSquaredOf, keyLimitOf, onesOf, twosOf, totalOf, setNumberOf, askedOf}
+use Rattle.sets.specs.Numbers.{all, dOf, pOf, largestOf, boundSquaredOf, keyLimitOf, onesOf, twosOf, setNumberOf, askedOf}
 use Rattle.answers.specs.declared.Outcome.the-variants.{UnknownSet}
 use Rattle.answers.specs.Outcomes.{numberOf}
-use Rattle.answers.specs.Sizes.{kappaAsked, recordBytesAsked}
+use Rattle.answers.specs.Sizes.{kappaAsked}
 use Rattle.limits.specs.LengthRule.{lengthRule}
 use Rattle.keys.specs.Key.{keyTest}
 use Rattle.commitment.specs.Commitment.{commitment, Outputs, keeping, commitmentWithRests}
 use Rattle.signing.specs.Response.{Lent, early, response}
 use Rattle.checking.specs.Checking.{Claim, rebuild, comparison}
-use Rattle.records.specs.Writer.{writingOf}
+use Rattle.record_forms.specs.declared.Form.{Form}
+use Rattle.record_forms.specs.declared.Form.the-variants.{Plain}
+use Rattle.record_forms.specs.Forms.{totalOf}
+use Rattle.record_forms.specs.Sizes.{recordBytesAsked}
+use Rattle.records.specs.Writer.{offered, writingOf}
 use Rattle.promises.specs.Defaults.{Refuses}
 
 -- the numbers of a set beside its number and kappa
@@ -29,7 +33,7 @@ Above s s′ = setNumberOf s′ ≡ setNumberOf s + 4
 -- totals, so of the sizes that are half of what a total has above 1560; and the other numbers of a set are those of the set four numbers above it
 pub record LongerSets : Type 0 where
   pub numbers : map setNumberOf all ≡ 1 ∷ 2 ∷ 3 ∷ 4 ∷ 5 ∷ 6 ∷ 7 ∷ 8 ∷ []
-  pub totals : map totalOf all ≡ 1606 ∷ 1606 ∷ 1620 ∷ 1638 ∷ 1676 ∷ 1676 ∷ 1724 ∷ 1786 ∷ []
+  pub totals : map (totalOf Plain) all ≡ 1606 ∷ 1606 ∷ 1620 ∷ 1638 ∷ 1676 ∷ 1676 ∷ 1724 ∷ 1786 ∷ []
   pub otherwise : (s s′ : Set) → Above s s′ → others s′ ≡ others s
 
 -- Two sets that differ in their lists alone: key test and both commitments leave behind the same with either, and "we keep their length limits".
@@ -51,9 +55,9 @@ pub record NoSet (n : ℕ) : Type 0 where
   pub responses : (c : Lent) → response n c ≡ early c UnknownSet
   pub rebuilds : (a : List ℕ) (c : Claim) (out : List ℕ) → Refuses 1 (rebuild n a c out) out
   pub comparisons : (claimed hashed : List ℕ) → numberOf (comparison n claimed hashed) ≡ 1
-  pub writers : (z1 z2 : List ℤ) (l out : List ℕ) → Refuses 1 (writingOf n z1 z2 l out) out
+  pub writers : (form : Form) (z1 z2 : List ℤ) (l out : List ℕ) → Refuses 1 (writingOf form (offered n z1 z2 l) out) out
   pub kappas : kappaAsked n ≡ 0
-  pub records : recordBytesAsked n ≡ 0
+  pub records : (form : Form) → recordBytesAsked form n ≡ 0
 
 -- "Refusals: 1 now above 8", and not below
 abbrev pub SetAbove : Type 0

@@ -1,9 +1,10 @@
-// The five calls on records, each printed as a line: what it is lent, the number and the place, the set that the reader answers, and a checksum of what the
+// The calls on records, each printed as a line: what it is lent, the number and the place, the set that the reader answers, and a checksum of what the
 // output, the buffers or the section holds afterwards. The program records_run has the cases.
 ghost use mathlib.Core.Path.{_≡_};
 ghost use lib.ListN.{length};
 use answers::Outcome;
 use libc::STDOUT_FILENO;
+use record_forms::Form;
 use sets::Asked;
 use sets::Set;
 
@@ -60,37 +61,65 @@ pub fn kappa_of(set: u32) -> usize {
     }
 }
 
-pub fn total_of(set: u32) -> usize {
+pub fn total_of(form: Form, set: u32) -> usize {
     match Set::asked(set) {
         Asked::Unknown => 0,
-        Asked::Known(s) => s.total(),
+        Asked::Known(s) => form.total(s),
     }
 }
 
 // ---- the calls
 
 // Writes to the front of 1,800 bytes of 165, of which `room` are lent; then reads as many of them as the set's total.
-pub fn writing(set: u32, z1: &[i16], z2: &[i8], list: &[u16], count: usize, room: usize) {
+pub fn writing(
+    form: Form,
+    set: u32,
+    z1: &[i16],
+    z2: &[i8],
+    list: &[u16],
+    count: usize,
+    room: usize,
+) {
     let mut space = bytes_of(165);
-    number(b"write: set ", set as u64);
+    named(form, b"write: set ", b"write packed: set ");
+    number(b"", set as u64);
     number(b", z1 of ", z1.len() as u64);
     number(b", z2 dagger of ", z2.len() as u64);
     number(b", list of ", count as u64);
     number(b", output of ", room as u64);
-    show(write_room(set, z1, z2, first_places(list, count), room, &mut space));
-    checked(set, &space);
+    show(write_room(
+        form,
+        set,
+        z1,
+        z2,
+        first_places(list, count),
+        room,
+        &mut space,
+    ));
+    checked(form, set, &space);
 }
 
-fn checked(set: u32, space: &[u8]) {
+fn named(form: Form, plain: &[u8], packed: &[u8]) {
+    match form {
+        Form::Plain => print(plain),
+        Form::Packed => print(packed),
+    }
+}
+
+fn checked(form: Form, set: u32, space: &[u8]) {
     number(b"; output sums to ", sum(space));
     print(b"\n");
-    let rec = front(space, total_of(set));
-    reading(rec, 512, 512, Set::LIST_LIMIT);
-    sections(rec);
+    let rec = front(space, total_of(form, set));
+    reading(form, rec, 512, 512, Set::LIST_LIMIT);
+    match form {
+        Form::Plain => sections(rec),
+        Form::Packed => back_and_forth(set, rec),
+    }
 }
 
 // To the first bytes of an output.
 fn write_room(
+    form: Form,
     set: u32,
     z1: &[i16],
     z2: &[i8],
@@ -99,27 +128,29 @@ fn write_room(
     out: &mut [u8],
 ) -> Outcome {
     if room <= out.len() {
-        records::write(set, z1, z2, list, &mut out[0..room])
+        records::write(form, set, z1, z2, list, &mut out[0..room])
     } else {
-        records::write(set, z1, z2, list, out)
+        records::write(form, set, z1, z2, list, out)
     }
 }
 
 // Reads into buffers of the lengths n1, n2, n3, which hold -1, -1 and 999.
-pub fn reading(rec: &[u8], n1: usize, n2: usize, n3: usize) {
+pub fn reading(form: Form, rec: &[u8], n1: usize, n2: usize, n3: usize) {
     let mut z1 = wide_of(-1);
     let mut z2 = narrow_of(-1);
     let mut list = places_of(999);
-    number(b"  read ", rec.len() as u64);
+    named(form, b"  read ", b"  read packed ");
+    number(b"", rec.len() as u64);
     number(b" bytes, z1 of ", n1 as u64);
     number(b", z2 dagger of ", n2 as u64);
     number(b", list of ", n3 as u64);
-    read_to(rec, &mut z1, n1, &mut z2, n2, &mut list, n3);
+    read_to(form, rec, &mut z1, n1, &mut z2, n2, &mut list, n3);
     number(b"; buffers sum to ", buffer_sum(&z1, &z2, &list));
     print(b"\n");
 }
 
 fn read_to(
+    form: Form,
     rec: &[u8],
     z1: &mut [i16],
     n1: usize,
@@ -131,13 +162,42 @@ fn read_to(
     if n1 <= z1.len() {
         if n2 <= z2.len() {
             if n3 <= list.len() {
-                let r = records::read(rec, &mut z1[0..n1], &mut z2[0..n2], &mut list[0..n3]);
+                let r = records::read(form, rec, &mut z1[0..n1], &mut z2[0..n2], &mut list[0..n3]);
                 let o = r.outcome;
                 show(o);
                 let set = r.set;
                 number(b", set ", set as u64);
             }
         }
+    }
+}
+
+// ---- the conversions
+
+// A packed record as a plain one, and that as a packed one again.
+fn back_and_forth(set: u32, rec: &[u8]) {
+    let mut plain = bytes_of(165);
+    converting(Form::Packed, Form::Plain, rec, ROOM, &mut plain);
+    let mut again = bytes_of(165);
+    let unpacked = front(&plain, total_of(Form::Plain, set));
+    converting(Form::Plain, Form::Packed, unpacked, ROOM, &mut again);
+}
+
+// To the first bytes of an output, of which `room` are lent.
+pub fn converting(from: Form, to: Form, rec: &[u8], room: usize, out: &mut [u8]) {
+    named(to, b"  unpack ", b"  pack ");
+    number(b"", rec.len() as u64);
+    number(b" bytes, output of ", room as u64);
+    show(convert_room(from, to, rec, room, out));
+    number(b"; output sums to ", sum(out));
+    print(b"\n");
+}
+
+fn convert_room(from: Form, to: Form, rec: &[u8], room: usize, out: &mut [u8]) -> Outcome {
+    if room <= out.len() {
+        records::convert(from, to, rec, &mut out[0..room])
+    } else {
+        records::convert(from, to, rec, out)
     }
 }
 

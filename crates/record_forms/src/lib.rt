@@ -1,24 +1,99 @@
-// The form of a record: its header, and its sections as parts of it (01, "The record").
+// The form of a record, plain (01, "The record") or packed (02, C-11): its header, and its sections as parts of it.
 mod sections;
+pub mod sizes;
 
 ghost use mathlib.Core.Path.{_≡_};
-ghost use Prim.Native.Nat.{_≤_};
+ghost use Prim.Native.Nat.{_*_, _≤_};
 ghost use lib.ListN.{length};
-ghost use Rattle.sets.specs.Numbers.{headerLength};
-ghost use Rattle.record_forms.specs.Headers.{headerOf, agree, setFields, fieldsAfter, headerIn};
+ghost use Rattle.sets.specs.Numbers.{kappaOf};
+ghost use Rattle.record_forms.specs.Forms.{lettersOf, listBitsOf, headerLength, z2OffsetOf, listOffsetOf, totalOf};
+ghost use Rattle.record_forms.specs.Headers.{headerOf, agree, spareBits, setFields, fieldsAfter, headerIn};
 use byte_codes::put_number;
 pub use sections::list_section;
 pub use sections::z1_section;
 pub use sections::z2_section;
 use sets::Asked;
-pub use sets::HEADER_LENGTH;
-pub use sets::LIST_OFFSET;
 use sets::Set;
-pub use sets::Z1_OFFSET;
-pub use sets::Z2_OFFSET;
 
-// The four letters that open every record.
+// The four letters that open every plain record, and every packed one.
 pub const LETTERS: [u8; 4] = *b"BLB1";
+
+pub const PACKED_LETTERS: [u8; 4] = *b"BLP1";
+
+// The bytes of a header, and where z1 starts.
+pub const HEADER_LENGTH: usize = 24;
+
+pub const Z1_OFFSET: usize = HEADER_LENGTH;
+
+// Where z2 dagger and the list start in a plain record.
+pub const Z2_OFFSET: usize = 1048;
+
+pub const LIST_OFFSET: usize = 1560;
+
+// The bytes of the longest plain record of any set, and of the longest packed one.
+pub const RECORD_LIMIT: usize = 1786;
+
+pub const PACKED_LIMIT: usize = 1240;
+
+pub enum Form {
+    Plain,
+    Packed,
+}
+
+impl Form {
+    pub fn letters(self) -> [u8; 4]
+        ensures { λ r. ⌜ r ≡ lettersOf self ⌝ }
+    {
+        match self {
+            Form::Plain => LETTERS,
+            Form::Packed => PACKED_LETTERS,
+        }
+    }
+
+    // The bits of a place of the list.
+    pub fn list_bits(self) -> usize
+        ensures { λ r. ⌜ r ≡ listBitsOf self ⌝ }
+    {
+        match self {
+            Form::Plain => 16,
+            Form::Packed => bit_codes::LIST_BITS,
+        }
+    }
+
+    // Where z2 dagger starts.
+    pub fn z2_offset(self) -> usize
+        ensures { λ r. ⌜ r ≡ z2OffsetOf self ⌝ }
+    {
+        match self {
+            Form::Plain => Z2_OFFSET,
+            Form::Packed => 856,
+        }
+    }
+
+    // Where the list starts.
+    pub fn list_offset(self) -> usize
+        ensures { λ r. ⌜ r ≡ listOffsetOf self ⌝ }
+    {
+        match self {
+            Form::Plain => LIST_OFFSET,
+            Form::Packed => 1112,
+        }
+    }
+
+    // The bits of a set's list.
+    fn bits_of_list(self, s: Set) -> usize
+        ensures { λ r. ⌜ r ≡ listBitsOf self * kappaOf s ⌝ }
+    {
+        self.list_bits() * s.kappa()
+    }
+
+    // The bytes of a set's record.
+    pub fn total(self, s: Set) -> usize
+        ensures { λ r. ⌜ r ≡ totalOf self s ⌝ }
+    {
+        self.list_offset() + (self.bits_of_list(s) + 7) / 8
+    }
+}
 
 // What a record's header says: its set, or the first byte of the first wrong field.
 pub enum Header {
@@ -26,24 +101,32 @@ pub enum Header {
     Malformed(u32),
 }
 
-pub fn header_in(rec: &[u8]) -> Header
-    ensures { λ r. ⌜ r ≡ headerIn (now (rec .entry)) ⌝ }
+pub fn header_in(form: Form, rec: &[u8]) -> Header
+    ensures { λ r. ⌜ r ≡ headerIn form (now (rec .entry)) ⌝ }
 {
     if rec.len() < HEADER_LENGTH {
         return Header::Malformed(rec.len() as u32);
     }
-    if !agrees(0, 4, rec, &LETTERS) {
+    if !opens(form, rec) {
         return Header::Malformed(0);
     }
     match Set::named(rec[4] as u32) {
         Asked::Unknown => Header::Malformed(4),
-        Asked::Known(s) => fields_after(s, &header_of(s), rec),
+        Asked::Known(s) => fields_after(form, s, &header_of(form, s), rec),
     }
 }
 
-fn fields_after(s: Set, header: &[u8], rec: &[u8]) -> Header
+// Whether a record opens with the form's letters.
+fn opens(form: Form, rec: &[u8]) -> bool
+    requires { ⌜ headerLength ≤ length (now rec) ⌝ }
+    ensures { λ r. ⌜ r ≡ agree 0 4 (now (rec .entry)) (lettersOf form) ⌝ }
+{
+    agrees(0, 4, rec, &form.letters())
+}
+
+fn fields_after(form: Form, s: Set, header: &[u8], rec: &[u8]) -> Header
     requires { ⌜ (length (now header) ≡ headerLength) × (headerLength ≤ length (now rec)) ⌝ }
-    ensures { λ r. ⌜ r ≡ fieldsAfter s (now (header .entry)) (now (rec .entry)) ⌝ }
+    ensures { λ r. ⌜ r ≡ fieldsAfter form s (now (header .entry)) (now (rec .entry)) ⌝ }
 {
     if !agrees(5, 6, rec, header) {
         return Header::Malformed(5);
@@ -60,12 +143,12 @@ fn fields_after(s: Set, header: &[u8], rec: &[u8]) -> Header
     if !agrees(12, 14, rec, header) {
         return Header::Malformed(12);
     }
-    set_fields(s, header, rec)
+    set_fields(form, s, header, rec)
 }
 
-fn set_fields(s: Set, header: &[u8], rec: &[u8]) -> Header
+fn set_fields(form: Form, s: Set, header: &[u8], rec: &[u8]) -> Header
     requires { ⌜ (length (now header) ≡ headerLength) × (headerLength ≤ length (now rec)) ⌝ }
-    ensures { λ r. ⌜ r ≡ setFields s (now (header .entry)) (now (rec .entry)) ⌝ }
+    ensures { λ r. ⌜ r ≡ setFields form s (now (header .entry)) (now (rec .entry)) ⌝ }
 {
     if !agrees(14, 16, rec, header) {
         return Header::Malformed(14);
@@ -76,11 +159,24 @@ fn set_fields(s: Set, header: &[u8], rec: &[u8]) -> Header
     if !agrees(18, 20, rec, header) {
         return Header::Malformed(18);
     }
-    if rec.len() != s.total() {
+    if rec.len() != form.total(s) {
         return Header::Malformed(18);
     }
     if !agrees(20, HEADER_LENGTH, rec, header) {
         return Header::Malformed(20);
+    }
+    spare_bits(form, s, rec)
+}
+
+// The spare bits of the list's last byte, which is the record's.
+fn spare_bits(form: Form, s: Set, rec: &[u8]) -> Header
+    requires { ⌜ length (now rec) ≡ totalOf form s ⌝ }
+    ensures { λ r. ⌜ r ≡ spareBits form s (now (rec .entry)) ⌝ }
+{
+    let from = form.list_offset();
+    let to = rec.len();
+    if !bit_codes::spare_clear(&rec[from..to], form.bits_of_list(s)) {
+        return Header::Malformed((to - 1) as u32);
     }
     Header::States(s)
 }
@@ -101,21 +197,22 @@ fn agrees(from: usize, to: usize, a: &[u8], b: &[u8]) -> bool
 }
 
 // The header of a set's records.
-pub fn header_of(s: Set) -> [u8; HEADER_LENGTH]
-    ensures { λ r. ⌜ r ≡ headerOf s ⌝ }
+pub fn header_of(form: Form, s: Set) -> [u8; HEADER_LENGTH]
+    ensures { λ r. ⌜ r ≡ headerOf form s ⌝ }
 {
+    let letters = form.letters();
     let mut header = [0u8; HEADER_LENGTH];
-    header[0] = LETTERS[0];
-    header[1] = LETTERS[1];
-    header[2] = LETTERS[2];
-    header[3] = LETTERS[3];
+    header[0] = letters[0];
+    header[1] = letters[1];
+    header[2] = letters[2];
+    header[3] = letters[3];
     header[4] = s.number() as u8;
     put_number(&mut header, 6, Set::DIMENSION as u16);
     put_number(&mut header, 8, Z1_OFFSET as u16);
     put_number(&mut header, 10, Set::DIMENSION as u16);
-    put_number(&mut header, 12, Z2_OFFSET as u16);
+    put_number(&mut header, 12, form.z2_offset() as u16);
     put_number(&mut header, 14, s.kappa() as u16);
-    put_number(&mut header, 16, LIST_OFFSET as u16);
-    put_number(&mut header, 18, s.total() as u16);
+    put_number(&mut header, 16, form.list_offset() as u16);
+    put_number(&mut header, 18, form.total(s) as u16);
     header
 }

@@ -7,10 +7,11 @@ use denote.Ref.{now}
 use lib.IntN.{ℤ}
 use Rattle.answers.specs.declared.Outcome.{Outcome}
 use Rattle.answers.specs.Outcomes.{Filled, filled}
-use Rattle.answers.proofs.Slots.{write-out, read-z1, read-z2, read-list}
+use Rattle.answers.proofs.Slots.{writer-out, reader-z1, reader-z2, reader-list, convert-out}
 use Rattle.records.specs.Reader.{Found, found}
 use Rattle.records.proofs.write.Reads as write
 use Rattle.records.proofs.read.Reads as read
+use Rattle.records.proofs.convert.Reads as convert
 
 -- what a call leaves behind is all in one value
 one-filled : {o o′ : Outcome} {l l′ : List ℕ} (w : Filled) → filled o l ≡ w → filled o′ l′ ≡ w → (o ≡ o′) × (l ≡ l′)
@@ -22,10 +23,15 @@ one-found w p q = (cc, cc, cc, cc, cc)
 
 -- the outcome and the output
 pub write-determined : (κs : Lfts 4) (a : _) (r r′ : _) (s s′ : _) → write.Post κs a r s → write.Post κs a r′ s′
-    → (r ≡ r′) × (now (write-out s) ≡ now (write-out s′))
+    → (r ≡ r′) × (now (writer-out s) ≡ now (writer-out s′))
 write-determined κs a r r′ s s′ p q = one-filled _ p q
 
 -- the outcome, the set and the three buffers
 pub read-determined : (κs : Lfts 4) (a : _) (r r′ : _) (s s′ : _) → read.Post κs a r s → read.Post κs a r′ s′
-    → (r .outcome ≡ r′ .outcome) × (r .set ≡ r′ .set) × (now (read-z1 s) ≡ now (read-z1 s′)) × (now (read-z2 s) ≡ now (read-z2 s′)) × (now (read-list s) ≡ now (read-list s′))
+    → (r .outcome ≡ r′ .outcome) × (r .set ≡ r′ .set) × (now (reader-z1 s) ≡ now (reader-z1 s′)) × (now (reader-z2 s) ≡ now (reader-z2 s′)) × (now (reader-list s) ≡ now (reader-list s′))
 read-determined κs a r r′ s s′ p q = one-found _ p q
+
+-- the outcome and the output
+pub convert-determined : (κs : Lfts 2) (a : _) (r r′ : _) (s s′ : _) → convert.Post κs a r s → convert.Post κs a r′ s′
+    → (r ≡ r′) × (now (convert-out s) ≡ now (convert-out s′))
+convert-determined κs a r r′ s s′ p q = one-filled _ p q

@@ -1,43 +1,43 @@
--- A signature of the right lengths: the lengths of its sections, and its record written piece after piece. Assumes nothing.
-use mathlib.Core.Path.{_≡_, refl, sym, ap, _∙_}
+-- The record of a signature in either form: the lengths of its sections, and the record written piece after piece. Assumes nothing.
+use mathlib.Core.Path.{_≡_, refl, sym}
 use mathlib.Core.List.{List, _++_, map, append-assoc}
-use Prim.Native.Nat.{ℕ, _+_, _*_, _-_, _≤_}
+use Prim.Native.Nat.{ℕ, _-_, _≤_}
 use native.Mathlib.Omega.{arith}
 use borrow.Rule.Slice.PartMut.{putMid, post-is}
-use lib.ListN.{length, drop, length-append, length-map}
+use lib.ListN.{length, drop, length-append}
 use lib.Seq.{take-at, drop-at}
-use Rattle.sets.specs.Numbers.{dimension, z1Offset, z2Offset, listOffset, kappaOf, totalOf}
-use Rattle.byte_codes.specs.Bytes.{packed, complement}
+use Rattle.sets.specs.Numbers.{dimension, kappaOf}
+use Rattle.byte_codes.specs.Bytes.{complement}
+use Rattle.bit_codes.proofs.Digits.{length-packed}
+use Rattle.record_forms.specs.declared.Form.{Form}
+use Rattle.record_forms.specs.Forms.{z1BitsOf, z2BitsOf, listBitsOf, z1Offset, z2OffsetOf, listOffsetOf, totalOf}
 use Rattle.record_forms.specs.Headers.{headerOf}
-use Rattle.byte_codes.proofs.Sections.{length-packed}
+use Rattle.record_forms.proofs.Forms.{z2-after-z1, list-after-z2, z2-after, list-after, after-list}
 use Rattle.record_forms.proofs.Stated.{header-long}
 use Rattle.records.specs.Signatures.{Signature, z1Bytes, z2Bytes, listBytes, recordOf}
 
+-- a signature of the right lengths
 pub record Sized (g : Signature) : Type 0 where
   pub z1-long : length (g .z1) ≡ dimension
   pub z2-long : length (g .z2) ≡ dimension
   pub list-long : length (g .list) ≡ kappaOf (g .set)
 
--- a section of entries that a function was applied to
-section-long : {A : Type 0} (f : A → ℕ) (width : ℕ) (entries : List A) {n : ℕ} → length entries ≡ n → length (packed width (map f entries)) ≡ width * n
-section-long f width entries e = length-packed width (map f entries) ∙ ap (λ (n : ℕ). width * n) (length-map entries f ∙ e)
-
-module _ (g : Signature) (so : Sized g) where
+module _ (form : Form) (g : Signature) where
   -- what stands before each section, and the whole
-  pub upto-z1 : length (headerOf (g .set)) ≡ z1Offset
-  upto-z1 = header-long (g .set)
+  pub upto-z1 : length (headerOf form (g .set)) ≡ z1Offset
+  upto-z1 = header-long form (g .set)
 
-  pub upto-z2 : length (headerOf (g .set) ++ z1Bytes g) ≡ z2Offset
-  upto-z2 = rw length-append (omega (arith, upto-z1, section-long (complement 16) 2 (g .z1) (so .z1-long)))
+  pub upto-z2 : length (headerOf form (g .set) ++ z1Bytes form g) ≡ z2OffsetOf form
+  upto-z2 = rw length-append (omega (arith, upto-z1, length-packed (z1BitsOf form) dimension (map (complement (z1BitsOf form)) (g .z1)), z2-after-z1 form))
 
-  pub upto-list : length ((headerOf (g .set) ++ z1Bytes g) ++ z2Bytes g) ≡ listOffset
-  upto-list = rw length-append (omega (arith, upto-z2, section-long (complement 8) 1 (g .z2) (so .z2-long)))
+  pub upto-list : length ((headerOf form (g .set) ++ z1Bytes form g) ++ z2Bytes form g) ≡ listOffsetOf form
+  upto-list = rw length-append (omega (arith, upto-z2, length-packed (z2BitsOf form) dimension (map (complement (z2BitsOf form)) (g .z2)), list-after-z2 form))
 
-  pub upto-end : length (((headerOf (g .set) ++ z1Bytes g) ++ z2Bytes g) ++ listBytes g) ≡ totalOf (g .set)
-  upto-end = rw length-append (omega (arith, upto-list, length-packed 2 (g .list), so .list-long))
+  pub upto-end : length (((headerOf form (g .set) ++ z1Bytes form g) ++ z2Bytes form g) ++ listBytes form g) ≡ totalOf form (g .set)
+  upto-end = rw length-append (omega (arith, upto-list, length-packed (listBitsOf form) (kappaOf (g .set)) (g .list)))
 
   -- the record, its pieces from the left
-  pub by-pieces : recordOf g ≡ ((headerOf (g .set) ++ z1Bytes g) ++ z2Bytes g) ++ listBytes g
+  pub by-pieces : recordOf form g ≡ ((headerOf form (g .set) ++ z1Bytes form g) ++ z2Bytes form g) ++ listBytes form g
   unfolding recordOf
   by-pieces = refl
 
@@ -46,20 +46,22 @@ piece : (a b : ℕ) (old p y : List ℕ) → a ≤ b → length p ≡ a → putM
 piece a b old p y h e =
     rw (take-at p (drop a old) a e, drop-at p (drop a old) a e, post-is a b old h) (sym (append-assoc p y (drop b old)))
 
-module _ (g : Signature) (so : Sized g) (old header wide narrow places : List ℕ) (total : ℕ) where
-  pub pieces : header ≡ headerOf (g .set) → wide ≡ z1Bytes g → narrow ≡ z2Bytes g → places ≡ listBytes g → total ≡ totalOf (g .set)
-      → putMid listOffset (total - listOffset) (putMid z2Offset (listOffset - z2Offset) (putMid z1Offset (z2Offset - z1Offset) (header ++ drop z1Offset old) wide) narrow) places
-      ≡ recordOf g ++ drop (totalOf (g .set)) old
-  pieces e f h k t =
-      let long : listOffset ≤ totalOf (g .set) = omega arith in
+module _ (form : Form) (g : Signature) (old header wide narrow places : List ℕ) (z2 list total : ℕ) where
+  pub pieces : header ≡ headerOf form (g .set) → wide ≡ z1Bytes form g → narrow ≡ z2Bytes form g → places ≡ listBytes form g
+      → z2 ≡ z2OffsetOf form → list ≡ listOffsetOf form → total ≡ totalOf form (g .set)
+      → putMid list (total - list) (putMid z2 (list - z2) (putMid z1Offset (z2 - z1Offset) (header ++ drop z1Offset old) wide) narrow) places
+      ≡ recordOf form g ++ drop (totalOf form (g .set)) old
+  pieces e f h k z l t =
       rw (
         e,
         f,
         h,
         k,
+        z,
+        l,
         t,
-        piece z1Offset z2Offset old (headerOf (g .set)) (z1Bytes g) (omega arith) (upto-z1 g so),
-        piece z2Offset listOffset old (headerOf (g .set) ++ z1Bytes g) (z2Bytes g) (omega arith) (upto-z2 g so),
-        piece listOffset (totalOf (g .set)) old ((headerOf (g .set) ++ z1Bytes g) ++ z2Bytes g) (listBytes g) long (upto-list g so),
-        by-pieces g so,
+        piece z1Offset (z2OffsetOf form) old (headerOf form (g .set)) (z1Bytes form g) (z2-after form) (upto-z1 form g),
+        piece (z2OffsetOf form) (listOffsetOf form) old (headerOf form (g .set) ++ z1Bytes form g) (z2Bytes form g) (list-after form) (upto-z2 form g),
+        piece (listOffsetOf form) (totalOf form (g .set)) old ((headerOf form (g .set) ++ z1Bytes form g) ++ z2Bytes form g) (listBytes form g) (after-list form (g .set)) (upto-list form g),
+        by-pieces form g,
       )

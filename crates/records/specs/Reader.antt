@@ -1,4 +1,4 @@
--- The reader: refusals 2, 13, 5, 10, 11 (01, "The record", "Numbers that come back").
+-- The readers: refusals 2, 13, 5, 10, 11 (01, "The record", "Numbers that come back"; 02, C-11).
 use mathlib.Core.List.{List, _++_}
 use Prim.Native.Nat.{ℕ}
 use lib.Dec.{eqb}
@@ -11,24 +11,38 @@ use Rattle.answers.specs.declared.Outcome.{Outcome}
 use Rattle.answers.specs.declared.Outcome.the-variants.{Done, WrongLength, HeaderMalformed}
 use Rattle.answers.specs.Outcomes.{unless}
 use Rattle.vectors.specs.Vectors.{sized}
+use Rattle.record_forms.specs.declared.Form.{Form}
 use Rattle.record_forms.specs.Headers.{headerIn, opened}
 use Rattle.records.specs.Signatures.{signatureIn, refusalOf}
 
--- what the reader leaves behind: its answer, the set, and the buffers of z1, z2 dagger and the list
+-- what a reader leaves behind: its answer, the set, and the buffers of z1, z2 dagger and the list
 pub data Found : Type 0 where
   found : Outcome → ℕ → List ℤ → List ℤ → List ℕ → Found
 
--- the set is 0 when it refuses; the list's entries after kappa keep their old contents
-unfoldable pub readingFor : Set → List ℕ → List ℤ → List ℤ → List ℕ → Found
-readingFor s rec z1 z2 list =
-    unless (refusalOf (signatureIn s rec)) (λ o. found o 0 z1 z2 list)
-    (found Done (setNumberOf s) (signatureIn s rec .z1) (signatureIn s rec .z2) (signatureIn s rec .list ++ drop (kappaOf s) list))
+-- the three buffers as they came
+pub record Buffers : Type 0 where
+  pub z1 : List ℤ
+  pub z2 : List ℤ
+  pub list : List ℕ
+
+abbrev pub buffers : List ℤ → List ℤ → List ℕ → Buffers
+buffers z1 z2 list = record { z1 = z1; z2 = z2; list = list }
+
+-- a refusal: the set is 0
+abbrev pub keeping : Buffers → Outcome → Found
+keeping b o = found o 0 (b .z1) (b .z2) (b .list)
+
+-- the list's entries after kappa keep their old contents
+unfoldable pub readingFor : Form → Set → List ℕ → Buffers → Found
+readingFor form s rec b =
+    unless (refusalOf (signatureIn form s rec)) (keeping b)
+    (found Done (setNumberOf s) (signatureIn form s rec .z1) (signatureIn form s rec .z2) (signatureIn form s rec .list ++ drop (kappaOf s) (b .list)))
 
 -- the lengths of the buffers, then the header
-unfoldable pub readingOf : List ℕ → List ℤ → List ℤ → List ℕ → Found
-readingOf rec z1 z2 list =
-    must (sized z1) (found WrongLength 0 z1 z2 list)
-    (must (sized z2) (found WrongLength 0 z1 z2 list)
-    (must (eqb (length list) listLimit) (found WrongLength 0 z1 z2 list)
-    (opened (headerIn rec) (λ place. found (HeaderMalformed place) 0 z1 z2 list)
-    (λ s. readingFor s rec z1 z2 list))))
+unfoldable pub readingOf : Form → List ℕ → Buffers → Found
+readingOf form rec b =
+    must (sized (b .z1)) (keeping b WrongLength)
+    (must (sized (b .z2)) (keeping b WrongLength)
+    (must (eqb (length (b .list)) listLimit) (keeping b WrongLength)
+    (opened (headerIn form rec) (λ place. keeping b (HeaderMalformed place))
+    (λ s. readingFor form s rec b))))

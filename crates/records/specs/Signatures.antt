@@ -1,15 +1,18 @@
--- A signature is its set, z1, z2 dagger and list (01, "The record"): its record, and the signature that a record holds.
+-- A signature is its set, z1, z2 dagger and list (01, "The record"): its record in either form (02, C-11), and the signature that a record holds.
 use mathlib.Core.List.{List, _++_, map}
 use Prim.Native.Nat.{ℕ}
 use lib.IntN.{ℤ}
 use Rattle.laws.specs.Refusals.{must}
 use Rattle.sets.specs.declared.Set.{Set}
-use Rattle.sets.specs.Numbers.{dimension, z1Offset, z2Offset, listOffset, kappaOf, totalOf}
+use Rattle.sets.specs.Numbers.{dimension, kappaOf}
 use Rattle.answers.specs.declared.Outcome.{Outcome}
 use Rattle.answers.specs.declared.Outcome.the-variants.{ImproperList}
 use Rattle.vectors.specs.Places.{properList}
 use Rattle.limits.specs.LengthRule.{lengthRule}
-use Rattle.byte_codes.specs.Bytes.{packed, unpacked, complement, fromComplement}
+use Rattle.byte_codes.specs.Bytes.{complement, fromComplement}
+use Rattle.bit_codes.specs.Bits.{packedBits, unpackedBits}
+use Rattle.record_forms.specs.declared.Form.{Form}
+use Rattle.record_forms.specs.Forms.{z1BitsOf, z2BitsOf, listBitsOf, z1Offset, z2OffsetOf, listOffsetOf, totalOf}
 use Rattle.record_forms.specs.Headers.{headerOf, part}
 
 -- z2 is z2 dagger
@@ -22,26 +25,26 @@ pub record Signature : Type 0 where
 abbrev pub signature : Set → List ℤ → List ℤ → List ℕ → Signature
 signature s z1 z2 list = record { set = s; z1 = z1; z2 = z2; list = list }
 
--- z1 has two bytes an entry and z2 dagger one, both two's complement; the list has two
-abbrev pub z1Bytes : Signature → List ℕ
-z1Bytes g = packed 2 (map (complement 16) (g .z1))
+-- the sections: entries of as many bits as the form has for them, those of z1 and of z2 dagger in two's complement
+abbrev pub z1Bytes : Form → Signature → List ℕ
+z1Bytes form g = packedBits (z1BitsOf form) dimension (map (complement (z1BitsOf form)) (g .z1))
 
-abbrev pub z2Bytes : Signature → List ℕ
-z2Bytes g = packed 1 (map (complement 8) (g .z2))
+abbrev pub z2Bytes : Form → Signature → List ℕ
+z2Bytes form g = packedBits (z2BitsOf form) dimension (map (complement (z2BitsOf form)) (g .z2))
 
-abbrev pub listBytes : Signature → List ℕ
-listBytes g = packed 2 (g .list)
+abbrev pub listBytes : Form → Signature → List ℕ
+listBytes form g = packedBits (listBitsOf form) (kappaOf (g .set)) (g .list)
 
-unfoldable pub recordOf : Signature → List ℕ
-recordOf g = headerOf (g .set) ++ z1Bytes g ++ z2Bytes g ++ listBytes g
+unfoldable pub recordOf : Form → Signature → List ℕ
+recordOf form g = headerOf form (g .set) ++ z1Bytes form g ++ z2Bytes form g ++ listBytes form g
 
 -- the signature in a record whose header states a set
-abbrev pub signatureIn : Set → List ℕ → Signature
-signatureIn s rec =
+abbrev pub signatureIn : Form → Set → List ℕ → Signature
+signatureIn form s rec =
     signature s
-    (map (fromComplement 16) (unpacked 2 dimension (part z1Offset z2Offset rec)))
-    (map (fromComplement 8) (unpacked 1 dimension (part z2Offset listOffset rec)))
-    (unpacked 2 (kappaOf s) (part listOffset (totalOf s) rec))
+    (map (fromComplement (z1BitsOf form)) (unpackedBits (z1BitsOf form) dimension (part z1Offset (z2OffsetOf form) rec)))
+    (map (fromComplement (z2BitsOf form)) (unpackedBits (z2BitsOf form) dimension (part (z2OffsetOf form) (listOffsetOf form) rec)))
+    (unpackedBits (listBitsOf form) (kappaOf s) (part (listOffsetOf form) (totalOf form s) rec))
 
 -- what a signature is refused for, whichever way it came: 5, 10, 11
 unfoldable pub refusalOf : Signature → Outcome

@@ -1,9 +1,10 @@
-// The five calls on records of every set: a header damaged byte by byte, every length, entries at the limits and past them, improper lists, buffers of the
-// wrong length. The crate record_calls makes the calls and prints a line for each.
+// The calls on records of every set, plain and packed: a header damaged byte by byte, every length, entries at the limits and past them, improper lists, spare
+// bits, buffers of the wrong length, the other form's record. The crate record_calls makes the calls and prints a line for each.
 ghost use mathlib.Core.Path.{_≡_};
 ghost use lib.ListN.{length};
 ghost use Rattle.sets.specs.Numbers.{listLimit};
 use record_calls::ROOM;
+use record_forms::Form;
 use record_forms::LIST_OFFSET;
 use record_forms::Z1_OFFSET;
 use record_forms::Z2_OFFSET;
@@ -16,6 +17,7 @@ fn main() {
     limits();
     lists();
     buffers();
+    packed_records();
 }
 
 // ---- the cases
@@ -42,7 +44,7 @@ fn for_set(set: u32) {
 fn header_bytes() {
     record_calls::print(b"---- a record of set 1, one byte of its header more by a number\n");
     let mut rec = record_calls::bytes_of(0);
-    fill(1, &mut rec);
+    fill(Form::Plain, 1, &mut rec);
     damage(&mut rec[0..1606]);
 }
 
@@ -192,6 +194,287 @@ fn reader_buffers() {
     with_buffers(23, 512, 512, Set::LIST_LIMIT);
 }
 
+// ---- the packed form
+
+fn packed_records() {
+    record_calls::print(
+        b"---- packed, sets 0 to 9: written, read, unpacked and packed again; then each bit of the last byte turned\n",
+    );
+    each_packed();
+    record_calls::print(b"---- a packed record of set 1, one byte of its header more by 1\n");
+    packed_header();
+    record_calls::print(
+        b"---- packed, entries that their bits hold and the limit does not, and lists\n",
+    );
+    packed_entries();
+    record_calls::print(b"---- a record of the other form\n");
+    other_form();
+    record_calls::print(
+        b"---- conversions: outputs short, just long enough and longer; conditions of several refusals together\n",
+    );
+    conversions();
+}
+
+fn each_packed() {
+    for set in 0..Set::LAST + 2 {
+        for_packed(set);
+    }
+}
+
+fn for_packed(set: u32) {
+    record_calls::writing(
+        Form::Packed,
+        set,
+        &first_vector(),
+        &second_vector(),
+        &places(),
+        record_calls::kappa_of(set),
+        ROOM,
+    );
+    spare_bits(set);
+}
+
+// The spare bits are the highest ones; the others are the last place's.
+fn spare_bits(set: u32) {
+    high_bits(set);
+    turned(set, 8);
+    turned(set, 4);
+    turned(set, 2);
+    turned(set, 1);
+}
+
+fn high_bits(set: u32) {
+    turned(set, 128);
+    turned(set, 64);
+    turned(set, 32);
+    turned(set, 16);
+}
+
+// A packed record with one bit of its last byte turned.
+fn turned(set: u32, bit: u8) {
+    let mut rec = record_calls::bytes_of(0);
+    fill(Form::Packed, set, &mut rec);
+    let total = record_calls::total_of(Form::Packed, set);
+    turn_last(&mut rec, total, bit);
+    record_calls::number(b"last byte, bit ", bit as u64);
+    record_calls::print(b" turned\n");
+    record_calls::reading(
+        Form::Packed,
+        record_calls::front(&rec, total),
+        512,
+        512,
+        Set::LIST_LIMIT,
+    );
+}
+
+fn turn_last(rec: &mut [u8], total: usize, bit: u8) {
+    if 0 < total {
+        turn(rec, total - 1, bit);
+    }
+}
+
+fn turn(rec: &mut [u8], at: usize, bit: u8) {
+    if at < rec.len() {
+        rec[at] = rec[at] ^ bit;
+    }
+}
+
+fn packed_header() {
+    let mut rec = record_calls::bytes_of(0);
+    fill(Form::Packed, 1, &mut rec);
+    each_packed_byte(&mut rec[0..1138]);
+}
+
+fn each_packed_byte(rec: &mut [u8]) {
+    let mut at = 0;
+    while at < 24 {
+        packed_more(rec, at);
+        at += 1;
+    }
+}
+
+fn packed_more(rec: &mut [u8], at: usize) {
+    if at < rec.len() {
+        record_calls::number(b"byte ", at as u64);
+        record_calls::print(b" more by 1\n");
+        let old = rec[at];
+        rec[at] = std::num::wrapping_add_u8(old, 1);
+        record_calls::reading(Form::Packed, rec, 512, 512, Set::LIST_LIMIT);
+        rec[at] = old;
+    }
+}
+
+// Bytes 24 and 25 hold entry 0 of z1 and the lowest three bits of entry 1, which is -1500: 4. Byte 856 holds entries 0 and 1 of z2 dagger, bytes 1112 and 1113
+// entry 0 of the list and the lowest seven bits of entry 1, which is 7.
+fn packed_entries() {
+    packed_pair(b"z1 entry 0 is 4095\n", 24, 4095 + 8192 * 4);
+    packed_pair(b"z1 entry 0 is -4096\n", 24, 4096 + 8192 * 4);
+    packed_pair(b"z1 entry 0 is 2100\n", 24, 2100 + 8192 * 4);
+    packed_pair(b"z1 entry 0 is 2101\n", 24, 2101 + 8192 * 4);
+    packed_daggers();
+    packed_lists();
+}
+
+fn packed_daggers() {
+    packed_pair(b"z2 dagger entry 0 is 7\n", 856, 7);
+    packed_pair(b"z2 dagger entry 0 is -8\n", 856, 8);
+    packed_pair(b"z2 dagger entry 1 is 7\n", 856, 112);
+    packed_pair(b"z2 dagger entry 1 is -8\n", 856, 128);
+    packed_pair(b"z2 dagger entry 1 is -1\n", 856, 240);
+}
+
+fn packed_lists() {
+    packed_pair(b"list entry 0 is 7, as entry 1 is\n", 1112, 7 + 512 * 7);
+    packed_pair(b"list entry 0 is 511\n", 1112, 511 + 512 * 7);
+    packed_pair(b"list entry 0 is 0\n", 1112, 512 * 7);
+}
+
+// The packed record of set 1, with two of its bytes changed; and unpacked.
+fn packed_pair(text: &[u8], at: usize, x: u16) {
+    record_calls::print(text);
+    let mut rec = record_calls::bytes_of(0);
+    fill(Form::Packed, 1, &mut rec);
+    change(&mut rec, at, x);
+    record_calls::reading(
+        Form::Packed,
+        record_calls::front(&rec, 1138),
+        512,
+        512,
+        Set::LIST_LIMIT,
+    );
+    let mut out = record_calls::bytes_of(165);
+    record_calls::converting(
+        Form::Packed,
+        Form::Plain,
+        record_calls::front(&rec, 1138),
+        ROOM,
+        &mut out,
+    );
+}
+
+fn other_form() {
+    let mut rec = record_calls::bytes_of(0);
+    let mut out = record_calls::bytes_of(165);
+    fill(Form::Packed, 2, &mut rec);
+    record_calls::reading(
+        Form::Plain,
+        record_calls::front(&rec, 1138),
+        512,
+        512,
+        Set::LIST_LIMIT,
+    );
+    record_calls::sections(record_calls::front(&rec, 1138));
+    record_calls::converting(
+        Form::Plain,
+        Form::Packed,
+        record_calls::front(&rec, 1138),
+        ROOM,
+        &mut out,
+    );
+    plain_as_packed();
+}
+
+fn plain_as_packed() {
+    let mut rec = record_calls::bytes_of(0);
+    let mut out = record_calls::bytes_of(165);
+    fill(Form::Plain, 2, &mut rec);
+    record_calls::reading(
+        Form::Packed,
+        record_calls::front(&rec, 1606),
+        512,
+        512,
+        Set::LIST_LIMIT,
+    );
+    record_calls::converting(
+        Form::Packed,
+        Form::Plain,
+        record_calls::front(&rec, 1606),
+        ROOM,
+        &mut out,
+    );
+}
+
+fn conversions() {
+    packing(1606, 0);
+    packing(1606, 1137);
+    packing(1606, 1138);
+    packing(1605, 0);
+    unpacking(1138, 0);
+    unpacking(1138, 1605);
+    unpacking(1138, 1606);
+    unpacking(1137, 0);
+}
+
+fn packing(lent: usize, room: usize) {
+    let mut rec = record_calls::bytes_of(0);
+    let mut out = record_calls::bytes_of(165);
+    fill(Form::Plain, 1, &mut rec);
+    record_calls::converting(
+        Form::Plain,
+        Form::Packed,
+        record_calls::front(&rec, lent),
+        room,
+        &mut out,
+    );
+    refused_packing(&mut rec, room);
+}
+
+// 5 before 10, 10 before 14: the second place as the first, then z1 past the limit.
+fn refused_packing(rec: &mut [u8], room: usize) {
+    let mut out = record_calls::bytes_of(165);
+    change(rec, Z1_OFFSET, 2101);
+    record_calls::converting(
+        Form::Plain,
+        Form::Packed,
+        record_calls::front(rec, 1606),
+        room,
+        &mut out,
+    );
+    change(rec, LIST_OFFSET, 7);
+    record_calls::converting(
+        Form::Plain,
+        Form::Packed,
+        record_calls::front(rec, 1606),
+        room,
+        &mut out,
+    );
+}
+
+fn unpacking(lent: usize, room: usize) {
+    let mut rec = record_calls::bytes_of(0);
+    let mut out = record_calls::bytes_of(165);
+    fill(Form::Packed, 1, &mut rec);
+    record_calls::converting(
+        Form::Packed,
+        Form::Plain,
+        record_calls::front(&rec, lent),
+        room,
+        &mut out,
+    );
+    refused_unpacking(&mut rec, room);
+}
+
+// 13 at the spare bit before 5, and that before 14.
+fn refused_unpacking(rec: &mut [u8], room: usize) {
+    let mut out = record_calls::bytes_of(165);
+    change(rec, 1112, 7 + 512 * 7);
+    record_calls::converting(
+        Form::Packed,
+        Form::Plain,
+        record_calls::front(rec, 1138),
+        room,
+        &mut out,
+    );
+    turn(rec, 1137, 128);
+    record_calls::converting(
+        Form::Packed,
+        Form::Plain,
+        record_calls::front(rec, 1138),
+        room,
+        &mut out,
+    );
+}
+
 // ---- one case
 
 // Places 4 apart, for the longest list.
@@ -228,9 +511,10 @@ fn second_vector() -> [i8; 512]
 }
 
 // The record of the two vectors and of the set's list.
-fn fill(set: u32, out: &mut [u8]) {
+fn fill(form: Form, set: u32, out: &mut [u8]) {
     let list = places();
     records::write(
+        form,
         set,
         &first_vector(),
         &second_vector(),
@@ -241,6 +525,7 @@ fn fill(set: u32, out: &mut [u8]) {
 
 fn sample(set: u32, list_of: u32, room: usize) {
     record_calls::writing(
+        Form::Plain,
         set,
         &first_vector(),
         &second_vector(),
@@ -269,15 +554,23 @@ fn alike(set: u32, x: i16, n1: usize, n2: usize, list_of: u32, room: usize) {
 fn parts(set: u32, z1: &[i16], n1: usize, z2: &[i8], n2: usize, count: usize, room: usize) {
     if n1 <= z1.len() {
         if n2 <= z2.len() {
-            record_calls::writing(set, &z1[0..n1], &z2[0..n2], &places(), count, room);
+            record_calls::writing(
+                Form::Plain,
+                set,
+                &z1[0..n1],
+                &z2[0..n2],
+                &places(),
+                count,
+                room,
+            );
         }
     }
 }
 
 fn with_buffers(lent: usize, n1: usize, n2: usize, n3: usize) {
     let mut rec = record_calls::bytes_of(0);
-    fill(2, &mut rec);
-    record_calls::reading(record_calls::front(&rec, lent), n1, n2, n3);
+    fill(Form::Plain, 2, &mut rec);
+    record_calls::reading(Form::Plain, record_calls::front(&rec, lent), n1, n2, n3);
 }
 
 // A byte of the record made larger by a number, modulo 256; then the byte is put back.
@@ -288,7 +581,7 @@ fn more_by(rec: &mut [u8], at: usize, by: u8) {
         record_calls::print(b"\n");
         let old = rec[at];
         rec[at] = std::num::wrapping_add_u8(old, by);
-        record_calls::reading(rec, 512, 512, Set::LIST_LIMIT);
+        record_calls::reading(Form::Plain, rec, 512, 512, Set::LIST_LIMIT);
         record_calls::sections(rec);
         rec[at] = old;
     }
@@ -343,6 +636,7 @@ fn one_place(at: usize, place: u16) {
         record_calls::print(b"\n");
         list[at] = place;
         record_calls::writing(
+            Form::Plain,
             1,
             &first_vector(),
             &second_vector(),
@@ -357,10 +651,11 @@ fn one_place(at: usize, place: u16) {
 // The record of a set, with two of its bytes changed.
 fn raw(set: u32, at: usize, x: u16) {
     let mut rec = record_calls::bytes_of(0);
-    fill(set, &mut rec);
+    fill(Form::Plain, set, &mut rec);
     change(&mut rec, at, x);
     record_calls::reading(
-        record_calls::front(&rec, record_calls::total_of(set)),
+        Form::Plain,
+        record_calls::front(&rec, record_calls::total_of(Form::Plain, set)),
         512,
         512,
         Set::LIST_LIMIT,
@@ -377,7 +672,7 @@ fn change(rec: &mut [u8], at: usize, x: u16) {
 
 fn each_length(set: u32) {
     let mut rec = record_calls::bytes_of(0);
-    fill(set, &mut rec);
+    fill(Form::Plain, set, &mut rec);
     from_nothing(&rec);
 }
 
@@ -401,7 +696,7 @@ fn at_length(rec: &[u8], n: usize, last: u64) -> u64 {
         record_calls::number(b"first bytes: ", n as u64);
         record_calls::part(b"; list section", bytes, k, place);
         record_calls::print(b"\n");
-        record_calls::reading(lent, 512, 512, Set::LIST_LIMIT);
+        record_calls::reading(Form::Plain, lent, 512, 512, Set::LIST_LIMIT);
     }
     now
 }

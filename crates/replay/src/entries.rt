@@ -33,7 +33,7 @@ pub fn replay(fd: i32) {
     tally::print(&counts);
 }
 
-// The number of entries; 0 where the letters are not BLVECT03.
+// The number of entries; 0 where the letters are not BLVECT04.
 fn stated(fd: i32) -> u32 {
     let mut bytes = [0u8; 16];
     let got = io::read_full(fd, &mut bytes);
@@ -51,7 +51,7 @@ fn stated(fd: i32) -> u32 {
 fn opens(bytes: &[u8]) -> bool
     requires { ⌜ length (now bytes) ≡ 16 ⌝ }
 {
-    let letters = b"BLVECT03";
+    let letters = b"BLVECT04";
     let mut i = 0;
     while i < 8 {
         if bytes[i] != letters[i] {
@@ -64,7 +64,7 @@ fn opens(bytes: &[u8]) -> bool
 
 // One entry: a load, a patch or a call. False where it is none.
 fn entry(fd: i32, memory: &mut [u8], counts: &mut [u32], said: &mut [u32]) -> bool
-    requires { ⌜ (length (now memory) ≡ 38912) × (length (now counts) ≡ 224) ⌝ }
+    requires { ⌜ (length (now memory) ≡ 38912) × (length (now counts) ≡ 288) ⌝ }
 {
     let mut bytes = [0u8; 8];
     let got = io::read_full(fd, &mut bytes);
@@ -132,7 +132,7 @@ fn scaled(width: u8, count: u16) -> usize
 }
 
 fn called(fd: i32, which: u8, memory: &[u8], counts: &mut [u32], said: &mut [u32]) -> bool
-    requires { ⌜ (length (now memory) ≡ 38912) × (length (now counts) ≡ 224) ⌝ }
+    requires { ⌜ (length (now memory) ≡ 38912) × (length (now counts) ≡ 288) ⌝ }
 {
     let mut bytes = [0u8; 28];
     let got = io::read_full(fd, &mut bytes);
@@ -148,9 +148,9 @@ fn called(fd: i32, which: u8, memory: &[u8], counts: &mut [u32], said: &mut [u32
     true
 }
 
-// A call that did as wanted; only calls 1 to 13 do, with numbers below 16.
+// A call that did as wanted; only calls 1 to 17 do, with numbers below 16.
 fn count(which: u8, number: u32, counts: &mut [u32])
-    requires { ⌜ length (now counts) ≡ 224 ⌝ }
+    requires { ⌜ length (now counts) ≡ 288 ⌝ }
 {
     let at = 16 * (which as usize) + (number as usize) % 16;
     if at < tally::COUNTS {
@@ -159,7 +159,7 @@ fn count(which: u8, number: u32, counts: &mut [u32])
 }
 
 fn missed(which: u8, k: Asked, counts: &mut [u32])
-    requires { ⌜ length (now counts) ≡ 224 ⌝ }
+    requires { ⌜ length (now counts) ≡ 288 ⌝ }
 {
     tally::text(b"call ");
     tally::number(which as u64);

@@ -11,7 +11,7 @@ use Rattle.laws.proofs.Chain.{and-left, and-right}
 use Rattle.sets.specs.declared.Set.{Set}
 use Rattle.sets.specs.declared.Set.the-variants.{I, II, III, IV, «V», VI, VII, VIII}
 use Rattle.sets.specs.declared.Asked.the-variants.{Known}
-use Rattle.sets.specs.Numbers.{dimension, twiceModulus, maskLimit, listLimit, listOffset, recordLimit, all, Largest, kappaOf, dOf, pOf, largestOf, boundOf, boundSquaredOf, keyLimitOf, onesOf, twosOf, coefficientLimitOf, totalOf, setNumberOf, lastNumber, numbered, namedOf, askedOf, defaultOne}
+use Rattle.sets.specs.Numbers.{dimension, twiceModulus, maskLimit, listLimit, all, Largest, kappaOf, dOf, pOf, largestOf, boundOf, boundSquaredOf, keyLimitOf, onesOf, twosOf, coefficientLimitOf, setNumberOf, lastNumber, numbered, namedOf, askedOf, defaultOne}
 
 -- ---- all sets
 
@@ -94,6 +94,13 @@ d-small = at-most _ _ refl
 pub largest-small : (s : Set) → largestOf s < 2 ^ 15
 largest-small = below _ _ refl
 
+-- so that an entry of z1 that the length rule passes has at most 13 binary digits, its sign's included, and one of z2 dagger at most 4 (02, C-11)
+pub largest-below-4096 : (s : Set) → largestOf s < 2 ^ 12
+largest-below-4096 = below _ _ refl
+
+pub largest-dagger : (s : Set) → largestOf s < 2 ^ 3 * 2 ^ dOf s
+largest-dagger = below _ _ refl
+
 -- so that a z2 dagger that the length rule passes is below p
 pub largest-below-spread : (s : Set) → largestOf s < pOf s * 2 ^ dOf s
 largest-below-spread = below _ _ refl
@@ -106,15 +113,6 @@ kappa-within = at-most _ _ refl
 
 pub list-limit : Largest kappaOf listLimit
 list-limit = (kappa-within, (VIII, refl))
-
-pub total-within : (s : Set) → totalOf s ≤ recordLimit
-total-within s = omega (arith, kappa-within s)
-
-pub record-limit : Largest totalOf recordLimit
-record-limit = (total-within, (list-limit .1 .0, ap (λ (n : ℕ). listOffset + 2 * n) (list-limit .1 .1)))
-
-pub total-small : (s : Set) → totalOf s < 2 ^ 16
-total-small s = omega (arith, total-within s)
 
 -- K is what the counts come to at most: d1 + 4 d2 for f, four times that for 2g, and what the 1 at place 0 adds to the largest coefficient there
 pub key-limit-is : (s : Set) → keyLimitOf s ≡ 5 * (onesOf s + 4 * twosOf s) + (4 * coefficientLimitOf s + 1)

@@ -2,7 +2,7 @@
 use mathlib.Core.Path.{_≡_}
 use mathlib.Core.Bool.{cond}
 use mathlib.Core.List.{List, [], _∷_}
-use Prim.Native.Nat.{ℕ, _+_, _*_, _≤_}
+use Prim.Native.Nat.{ℕ, _≤_}
 use lib.Dec.{eqb}
 use Rattle.sets.specs.declared.Set.{Set}
 use Rattle.sets.specs.declared.Set.the-variants.{I, II, III, IV, «V», VI, VII, VIII}
@@ -40,28 +40,6 @@ places = 31
 -- the entries of a reader's list buffer: the largest kappa
 abbrev pub listLimit : ℕ
 listLimit = 113
-
--- ---- the form of a record (01, "The record")
-
--- the bytes of a header
-abbrev pub headerLength : ℕ
-headerLength = 24
-
--- where z1 starts
-abbrev pub z1Offset : ℕ
-z1Offset = headerLength
-
--- where z2 dagger starts
-abbrev pub z2Offset : ℕ
-z2Offset = 1048
-
--- where the list starts
-abbrev pub listOffset : ℕ
-listOffset = 1560
-
--- the bytes of the longest record: the largest total
-abbrev pub recordLimit : ℕ
-recordLimit = listOffset + 2 * listLimit
 
 -- ---- of each set
 
@@ -133,10 +111,6 @@ twosOf s = column 0 0 16 31 (likeOf s)
 -- the largest coefficient that these counts leave to f and to g
 abbrev pub coefficientLimitOf : Set → ℕ
 coefficientLimitOf s = cond (eqb (twosOf s) 0) 1 2
-
--- the bytes of a record
-abbrev pub totalOf : Set → ℕ
-totalOf s = listOffset + 2 * kappaOf s
 
 -- the largest that a number of the sets is: no set has more, and one has as many
 abbrev pub Largest : (Set → ℕ) → ℕ → Type 0

@@ -1,16 +1,7 @@
 // The parameter sets: the numbers of a set are asked of the set and stand nowhere else (01, "Parameters").
 ghost use mathlib.Core.Path.{_≡_};
 ghost use Prim.Native.Nat.{_^_};
-ghost use Rattle.sets.specs.Numbers.{kappaOf, likeOf, dOf, pOf, largestOf, boundSquaredOf, keyLimitOf, onesOf, twosOf, totalOf, setNumberOf, namedOf, askedOf, defaultOne};
-
-// The bytes of a record's header, and where z1, z2 dagger and the list start (01, "The record").
-pub const HEADER_LENGTH: usize = 24;
-
-pub const Z1_OFFSET: usize = HEADER_LENGTH;
-
-pub const Z2_OFFSET: usize = 1048;
-
-pub const LIST_OFFSET: usize = 1560;
+ghost use Rattle.sets.specs.Numbers.{kappaOf, likeOf, dOf, pOf, largestOf, boundSquaredOf, keyLimitOf, onesOf, twosOf, setNumberOf, namedOf, askedOf, defaultOne};
 
 pub enum Set {
     I,
@@ -61,9 +52,6 @@ impl Set {
 
     // The entries of a reader's list buffer: as many as any set's list has.
     pub const LIST_LIMIT: usize = 113;
-
-    // The bytes of the longest record of any set.
-    pub const RECORD_LIMIT: usize = LIST_OFFSET + 2 * Set::LIST_LIMIT;
 
     pub fn kappa(self) -> usize
         ensures { λ r. ⌜ r ≡ kappaOf self ⌝ }
@@ -180,13 +168,6 @@ impl Set {
             Row::Third => 16,
             Row::Fourth => 31,
         }
-    }
-
-    // The bytes of a record.
-    pub fn total(self) -> usize
-        ensures { λ r. ⌜ r ≡ totalOf self ⌝ }
-    {
-        LIST_OFFSET + 2 * self.kappa()
     }
 
     // The number that stands in a record.

@@ -10,6 +10,7 @@ use lending::first_long;
 use lending::first_narrow;
 use lending::first_whole;
 use lending::first_wide;
+use record_forms::Form;
 use sets::Set;
 use vector_slots::left::is_left_whole;
 use vector_slots::left::is_left_wide;
@@ -24,7 +25,7 @@ use vector_slots::wanted::Asked;
 use vector_slots::wanted::is_left;
 use vector_slots::wanted::is_wanted;
 
-// The call of this number, 1 to 13. Of a signature that is given out it counts in `said` what the checker says.
+// The call of this number, 1 to 17. Of a signature that is given out it counts in `said` what the checker says.
 pub fn call(memory: &[u8], which: u8, k: Asked, said: &mut [u32]) -> bool
     requires { ⌜ length (now memory) ≡ 38912 ⌝ }
 {
@@ -34,10 +35,11 @@ pub fn call(memory: &[u8], which: u8, k: Asked, said: &mut [u32]) -> bool
         3 => respond(memory, k, said),
         4 | 12 => rebuild(memory, which, k),
         5 | 13 => comparison(memory, which, k),
-        6 => write(memory, k),
-        7 => read(memory, k),
+        6 | 14 => write(memory, which, k),
+        7 | 15 => read(memory, which, k),
         8 | 9 | 10 => section(memory, which, k),
         11 => commitment_with_rests(memory, k),
+        16 | 17 => convert(memory, which, k),
         _ => false,
     }
 }
@@ -178,6 +180,20 @@ fn is_drawn(
     let thresholds_lent = first_long(&thresholds, length_of(memory, 8));
     let words_lent = first_long(&words, length_of(memory, 9));
     checked(
+        Form::Plain,
+        k,
+        f,
+        g,
+        a,
+        y1_lent,
+        y2_lent,
+        list,
+        thresholds_lent,
+        words_lent,
+        said,
+    );
+    checked(
+        Form::Packed,
         k,
         f,
         g,
@@ -242,8 +258,9 @@ fn is_given_out(
     r.words == k.words
 }
 
-// Signer and checker: of what is sent, what the checker says of the record, and of the record with the first byte of z1 changed.
+// Signer and checker: of what is sent in a form, what the checker says of the record, and of the record with the first byte of z1 changed.
 fn checked(
+    form: Form,
     k: Asked,
     f: &[i8],
     g: &[i8],
@@ -255,9 +272,10 @@ fn checked(
     words: &[u64],
     said: &mut [u32],
 ) {
-    let mut rec = [0u8; Set::RECORD_LIMIT];
+    let mut rec = [0u8; record_forms::RECORD_LIMIT];
     let mut committed = [0u16; Set::DIMENSION];
     let r = agreement::send(
+        form,
         k.set,
         f,
         g,
@@ -275,11 +293,11 @@ fn checked(
     if !outcome.is_done() {
         return;
     }
-    let total = total_of(k.set);
-    let as_sent = agreement::accepts(a, first_bytes(&rec, total), &committed);
+    let total = total_of(form, k.set);
+    let as_sent = agreement::accepts(form, a, first_bytes(&rec, total), &committed);
     count(said, as_sent, 0, 1);
     rec[24] = std::num::wrapping_add_u8(rec[24], 1);
-    let changed = agreement::accepts(a, first_bytes(&rec, total), &committed);
+    let changed = agreement::accepts(form, a, first_bytes(&rec, total), &committed);
     count(said, changed, 2, 3);
 }
 
@@ -299,10 +317,10 @@ fn add(said: &mut [u32], at: usize) {
 }
 
 // The bytes of a record of the set that a number stands for, and 0 where there is none.
-fn total_of(set: u32) -> usize {
+fn total_of(form: Form, set: u32) -> usize {
     match Set::asked(set) {
         sets::Asked::Unknown => 0,
-        sets::Asked::Known(s) => s.total(),
+        sets::Asked::Known(s) => form.total(s),
     }
 }
 
@@ -365,19 +383,19 @@ fn compared(which: u8, set: u32, claimed: &[u16], hashed: &[u16]) -> Answer {
     bursztok::bursztok_compare(set, claimed, hashed)
 }
 
-fn write(memory: &[u8], k: Asked) -> bool
+fn write(memory: &[u8], which: u8, k: Asked) -> bool
     requires { ⌜ length (now memory) ≡ 38912 ⌝ }
 {
     let mut out = [k.fill; slots::ROOM];
     let old = [k.fill; slots::ROOM];
-    let r = written(memory, k, &mut out);
+    let r = written(memory, which == 14, k, &mut out);
     if !is_wanted(r.number, r.place, k) {
         return false;
     }
     is_left(memory, 17, k, &out, &old, once(k.output))
 }
 
-fn written(memory: &[u8], k: Asked, out: &mut [u8]) -> Answer
+fn written(memory: &[u8], packed: bool, k: Asked, out: &mut [u8]) -> Answer
     requires { ⌜ length (now memory) ≡ 38912 ⌝ }
 {
     let z1 = slots::wide(memory, 10);
@@ -386,16 +404,24 @@ fn written(memory: &[u8], k: Asked, out: &mut [u8]) -> Answer
     let z1_lent = first_wide(&z1, length_of(memory, 10));
     let z2_lent = first_narrow(&z2, length_of(memory, 11));
     let list_lent = first_whole(&list, length_of(memory, 6));
-    lending::write(k.set, z1_lent, z2_lent, list_lent, out, once(k.output))
+    lending::write(
+        packed,
+        k.set,
+        z1_lent,
+        z2_lent,
+        list_lent,
+        out,
+        once(k.output),
+    )
 }
 
-fn read(memory: &[u8], k: Asked) -> bool
+fn read(memory: &[u8], which: u8, k: Asked) -> bool
     requires { ⌜ length (now memory) ≡ 38912 ⌝ }
 {
     let mut z1 = [wide_fill(k.fill); ENTRIES];
     let mut z2 = [byte_codes::signed8(k.fill); ENTRIES];
     let mut list = [whole_fill(k.fill); ENTRIES];
-    let r = read_into(memory, k, &mut z1, &mut z2, &mut list);
+    let r = read_into(memory, which == 15, k, &mut z1, &mut z2, &mut list);
     if !is_wanted(r.number, r.place, k) {
         return false;
     }
@@ -408,11 +434,40 @@ fn read(memory: &[u8], k: Asked) -> bool
     is_left_whole(memory, 16, k, &list, k.list)
 }
 
-fn read_into(memory: &[u8], k: Asked, z1: &mut [i16], z2: &mut [i8], list: &mut [u16]) -> Reading
+fn read_into(
+    memory: &[u8],
+    packed: bool,
+    k: Asked,
+    z1: &mut [i16],
+    z2: &mut [i8],
+    list: &mut [u16],
+) -> Reading
     requires { ⌜ length (now memory) ≡ 38912 ⌝ }
 {
     let rec = first_bytes(slots::front(memory, 12, slots::ROOM), length_of(memory, 12));
-    lending::read(rec, z1, once(k.z1), z2, once(k.z2), list, once(k.list))
+    lending::read(
+        packed,
+        rec,
+        z1,
+        once(k.z1),
+        z2,
+        once(k.z2),
+        list,
+        once(k.list),
+    )
+}
+
+fn convert(memory: &[u8], which: u8, k: Asked) -> bool
+    requires { ⌜ length (now memory) ≡ 38912 ⌝ }
+{
+    let rec = first_bytes(slots::front(memory, 12, slots::ROOM), length_of(memory, 12));
+    let mut out = [k.fill; slots::ROOM];
+    let old = [k.fill; slots::ROOM];
+    let r = lending::convert(which == 16, rec, &mut out, once(k.output));
+    if !is_wanted(r.number, r.place, k) {
+        return false;
+    }
+    is_left(memory, 17, k, &out, &old, once(k.output))
 }
 
 fn section(memory: &[u8], which: u8, k: Asked) -> bool

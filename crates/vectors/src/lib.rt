@@ -139,6 +139,27 @@ pub fn copy(out: &mut [i16], x: &[i16])
     }
 }
 
+pub fn copy_narrow(out: &mut [i8], x: &[i8])
+    requires { ⌜ (length (now out) ≡ dimension) × (length (now x) ≡ dimension) ⌝ }
+    ensures { λ _. ⌜ now (out .exit) ≡ now (x .entry) ⌝ }
+{
+    for i in 0..Set::DIMENSION {
+        out[i] = x[i];
+    }
+}
+
+// As many places as there are.
+pub fn copy_places(out: &mut [u16], x: &[u16])
+    requires { ⌜ length (now out) ≡ length (now x) ⌝ }
+    ensures { λ _. ⌜ now (out .exit) ≡ now (x .entry) ⌝ }
+{
+    let mut i = 0;
+    while i < x.len() {
+        out[i] = x[i];
+        i += 1;
+    }
+}
+
 // ---- squared lengths and inner products
 
 // 512 squares of at most 2^30 each.

@@ -56,7 +56,7 @@ const fn program(
     }
 }
 
-const ROWS: [Row; 13] = [
+const ROWS: [Row; 17] = [
     program(
         "product, both operands transformed",
         ("ring_bench", 2000),
@@ -122,6 +122,28 @@ const ROWS: [Row; 13] = [
     ),
     call("record written, set I", Set::I, "write", Some(5_700), None),
     call("record read, set I", Set::I, "read", Some(5_700), None),
+    call(
+        "packed record written, set I",
+        Set::I,
+        "write-packed",
+        Some(40_000),
+        None,
+    ),
+    call(
+        "packed record read, set I",
+        Set::I,
+        "read-packed",
+        Some(34_000),
+        None,
+    ),
+    call("record packed, set I", Set::I, "pack", Some(50_000), None),
+    call(
+        "record unpacked, set I",
+        Set::I,
+        "unpack",
+        Some(50_000),
+        None,
+    ),
 ];
 
 /// Counts every row, prints it beside its bar and its peer, and fails where a bar is passed by more

@@ -28,9 +28,10 @@ bursztok-bench --bars PROGRAMS
 bursztok-bench --run CALL --times N [--set N] [--second]
       Runs one call so many times and measures nothing; for callgrind.
 
-CALL is key-test, commitment, commitment-with-rests, response, rebuild, rebuild-default-one, write
-or read. Each works on one sheet of a test key with the published counts; buffers are not cleared
-in between. The default of --milliseconds is 200 for each call and side.
+CALL is key-test, commitment, commitment-with-rests, response, rebuild, rebuild-default-one, write,
+read, write-packed, read-packed, pack or unpack. Each works on one sheet of a test key with the
+published counts; buffers are not cleared in between. The default of --milliseconds is 200 for each
+call and side.
 
 Exit status: 0 done, 1 no instructions counted or a bar passed by more than 3 %, 2 bad usage.";
 

@@ -5,11 +5,11 @@ use second::testing::calls::{self, Answered, Call, Input, OutputLengths, Outputs
 use second::testing::keys::published;
 use second::testing::noise::Noise;
 use second::testing::sheet::sign;
-use second::Set;
+use second::{Form, Set};
 use std::hint::black_box;
 
 /// The calls that are measured: as options name them, and the symbols that the library exports.
-pub const MEASURED: [(Call, &str, &str); 8] = [
+pub const MEASURED: [(Call, &str, &str); 12] = [
     (Call::KeyTest, "key-test", "bursztok_key_test"),
     (Call::Commitment, "commitment", "bursztok_commitment"),
     (
@@ -26,6 +26,10 @@ pub const MEASURED: [(Call, &str, &str); 8] = [
     ),
     (Call::Write, "write", "bursztok_write"),
     (Call::Read, "read", "bursztok_read"),
+    (Call::WritePacked, "write-packed", "bursztok_write_packed"),
+    (Call::ReadPacked, "read-packed", "bursztok_read_packed"),
+    (Call::Pack, "pack", "bursztok_pack"),
+    (Call::Unpack, "unpack", "bursztok_unpack"),
 ];
 
 /// Who does the work.
@@ -35,7 +39,7 @@ pub enum Side {
     Second,
 }
 
-/// A key, a signed sheet and its record, and buffers to write to.
+/// A key, a signed sheet and its records, and buffers to write to.
 pub struct Work {
     input: Input,
     rounded: Vec<u16>,
@@ -69,6 +73,7 @@ impl Work {
                 z1: signature.z1,
                 z2_dagger: signature.z2_dagger,
                 record: Vec::new(),
+                packed: Vec::new(),
                 lengths,
             },
             rounded: vec![0; lengths.rounded],
@@ -78,8 +83,14 @@ impl Work {
             list: vec![0; lengths.list],
             record: vec![0; lengths.record],
         };
-        work.run(Side::Second, Call::Write);
-        work.input.record = work.record.clone();
+        for (call, form) in [
+            (Call::Write, Form::Plain),
+            (Call::WritePacked, Form::Packed),
+        ] {
+            work.run(Side::Second, call);
+            let record = work.record[..form.total(set)].to_vec();
+            *work.input.record_in(form) = record;
+        }
         work
     }
 

@@ -159,6 +159,43 @@ extern "C" {
         list_len: usize,
     ) -> Reading;
 
+    pub fn bursztok_write_packed(
+        set: u32,
+        z1: *const i16,
+        z1_len: usize,
+        z2: *const i8,
+        z2_len: usize,
+        list: *const u16,
+        list_len: usize,
+        out: *mut u8,
+        out_len: usize,
+    ) -> Answer;
+
+    pub fn bursztok_read_packed(
+        record: *const u8,
+        record_len: usize,
+        z1: *mut i16,
+        z1_len: usize,
+        z2: *mut i8,
+        z2_len: usize,
+        list: *mut u16,
+        list_len: usize,
+    ) -> Reading;
+
+    pub fn bursztok_pack(
+        record: *const u8,
+        record_len: usize,
+        out: *mut u8,
+        out_len: usize,
+    ) -> Answer;
+
+    pub fn bursztok_unpack(
+        record: *const u8,
+        record_len: usize,
+        out: *mut u8,
+        out_len: usize,
+    ) -> Answer;
+
     pub fn bursztok_z1_section(
         record: *const u8,
         record_len: usize,
@@ -183,4 +220,6 @@ extern "C" {
     pub fn bursztok_kappa(set: u32) -> u32;
 
     pub fn bursztok_record_bytes(set: u32) -> u32;
+
+    pub fn bursztok_packed_bytes(set: u32) -> u32;
 }

@@ -1,7 +1,7 @@
 //! Safe bindings to `libbursztok.a`, the proved BLISS-B signing core.
 //!
-//! The thirteen calls of papers 01 and 02, with slices for the pointers and lengths of `bursztok.h`, and
-//! the two that tell a set's sizes. Every call answers on all input, slices of any length included; a
+//! The seventeen calls of papers 01 and 02, with slices for the pointers and lengths of `bursztok.h`,
+//! and the three that tell a set's sizes. Every call answers on all input, slices of any length included; a
 //! refusal leaves every output slice with the contents it came with. A set of 0 stands for set 4, and
 //! for set 1 on the two calls that keep the old default.
 
@@ -28,6 +28,8 @@ pub const THRESHOLDS: usize = 31;
 pub const LIST: usize = 113;
 /// The length of the longest record.
 pub const RECORD: usize = 1786;
+/// The length of the longest packed record.
+pub const PACKED: usize = 1240;
 
 /// What a response takes beside the two vectors that it writes.
 #[derive(Clone, Copy, Debug)]
@@ -52,7 +54,7 @@ pub struct Response {
     pub words: u64,
 }
 
-/// The answer of the reader: the set that the record states, 0 when it refuses.
+/// The answer of a reader: the set that the record states, 0 when it refuses.
 #[derive(Clone, Copy, Debug, PartialEq, Eq)]
 #[must_use]
 pub struct Reading {
@@ -152,13 +154,40 @@ pub fn write(
     outcome(calls::write(set, z1, z2_dagger, list, out))
 }
 
+/// The writer of packed records. A longer output keeps its tail.
+pub fn write_packed(
+    set: u32,
+    z1: &[i16],
+    z2_dagger: &[i8],
+    list: &[u16],
+    out: &mut [u8],
+) -> Result<(), Refusal> {
+    outcome(calls::write_packed(set, z1, z2_dagger, list, out))
+}
+
 /// The record reader. List entries after kappa keep their old contents.
 pub fn read(record: &[u8], z1: &mut [i16], z2_dagger: &mut [i8], list: &mut [u16]) -> Reading {
-    let answer = calls::read(record, z1, z2_dagger, list);
-    Reading {
-        outcome: Refusal::outcome(answer.number, answer.place),
-        set: answer.set,
-    }
+    reading(calls::read(record, z1, z2_dagger, list))
+}
+
+/// The reader of packed records. List entries after kappa keep their old contents.
+pub fn read_packed(
+    record: &[u8],
+    z1: &mut [i16],
+    z2_dagger: &mut [i8],
+    list: &mut [u16],
+) -> Reading {
+    reading(calls::read_packed(record, z1, z2_dagger, list))
+}
+
+/// The packed record of a plain one. A longer output keeps its tail.
+pub fn pack(record: &[u8], out: &mut [u8]) -> Result<(), Refusal> {
+    outcome(calls::pack(record, out))
+}
+
+/// The plain record of a packed one. A longer output keeps its tail.
+pub fn unpack(record: &[u8], out: &mut [u8]) -> Result<(), Refusal> {
+    outcome(calls::unpack(record, out))
 }
 
 /// The z1 bytes of a record: two an entry, low byte first.
@@ -184,6 +213,18 @@ pub fn kappa(set: u32) -> usize {
 /// The bytes of a record of this set, 0 where the number stands for no set. 0 stands for set 4.
 pub fn record_bytes(set: u32) -> usize {
     calls::record_bytes(set) as usize
+}
+
+/// The bytes of a packed record of this set, 0 where the number stands for no set. 0 stands for set 4.
+pub fn packed_bytes(set: u32) -> usize {
+    calls::packed_bytes(set) as usize
+}
+
+fn reading(answer: foreign::Reading) -> Reading {
+    Reading {
+        outcome: Refusal::outcome(answer.number, answer.place),
+        set: answer.set,
+    }
 }
 
 fn section(record: &[u8], (answer, part): (Answer, Part)) -> Section<'_> {

@@ -179,9 +179,43 @@ fn compare_by(call: CompareCall, set: u32, claimed: &[u16], hashed: &[u16]) -> A
 }
 
 pub fn write(set: u32, z1: &[i16], z2_dagger: &[i8], list: &[u16], out: &mut [u8]) -> Answer {
+    write_by(foreign::bursztok_write, set, z1, z2_dagger, list, out)
+}
+
+pub fn write_packed(
+    set: u32,
+    z1: &[i16],
+    z2_dagger: &[i8],
+    list: &[u16],
+    out: &mut [u8],
+) -> Answer {
+    let call = foreign::bursztok_write_packed;
+    write_by(call, set, z1, z2_dagger, list, out)
+}
+
+type WriteCall = unsafe extern "C" fn(
+    u32,
+    *const i16,
+    usize,
+    *const i8,
+    usize,
+    *const u16,
+    usize,
+    *mut u8,
+    usize,
+) -> Answer;
+
+fn write_by(
+    call: WriteCall,
+    set: u32,
+    z1: &[i16],
+    z2_dagger: &[i8],
+    list: &[u16],
+    out: &mut [u8],
+) -> Answer {
     // SAFETY: each pointer is good for the length beside it; `out` is borrowed alone.
     unsafe {
-        foreign::bursztok_write(
+        call(
             set,
             z1.as_ptr(),
             z1.len(),
@@ -196,9 +230,39 @@ pub fn write(set: u32, z1: &[i16], z2_dagger: &[i8], list: &[u16], out: &mut [u8
 }
 
 pub fn read(record: &[u8], z1: &mut [i16], z2_dagger: &mut [i8], list: &mut [u16]) -> Reading {
+    read_by(foreign::bursztok_read, record, z1, z2_dagger, list)
+}
+
+pub fn read_packed(
+    record: &[u8],
+    z1: &mut [i16],
+    z2_dagger: &mut [i8],
+    list: &mut [u16],
+) -> Reading {
+    read_by(foreign::bursztok_read_packed, record, z1, z2_dagger, list)
+}
+
+type ReadCall = unsafe extern "C" fn(
+    *const u8,
+    usize,
+    *mut i16,
+    usize,
+    *mut i8,
+    usize,
+    *mut u16,
+    usize,
+) -> Reading;
+
+fn read_by(
+    call: ReadCall,
+    record: &[u8],
+    z1: &mut [i16],
+    z2_dagger: &mut [i8],
+    list: &mut [u16],
+) -> Reading {
     // SAFETY: each pointer is good for the length beside it; the outputs are borrowed alone.
     unsafe {
-        foreign::bursztok_read(
+        call(
             record.as_ptr(),
             record.len(),
             z1.as_mut_ptr(),
@@ -209,6 +273,21 @@ pub fn read(record: &[u8], z1: &mut [i16], z2_dagger: &mut [i8], list: &mut [u16
             list.len(),
         )
     }
+}
+
+pub fn pack(record: &[u8], out: &mut [u8]) -> Answer {
+    convert_by(foreign::bursztok_pack, record, out)
+}
+
+pub fn unpack(record: &[u8], out: &mut [u8]) -> Answer {
+    convert_by(foreign::bursztok_unpack, record, out)
+}
+
+type ConvertCall = unsafe extern "C" fn(*const u8, usize, *mut u8, usize) -> Answer;
+
+fn convert_by(call: ConvertCall, record: &[u8], out: &mut [u8]) -> Answer {
+    // SAFETY: each pointer is good for the length beside it; `out` is borrowed alone.
+    unsafe { call(record.as_ptr(), record.len(), out.as_mut_ptr(), out.len()) }
 }
 
 pub fn z1_section(record: &[u8]) -> (Answer, Part) {
@@ -241,4 +320,9 @@ pub fn kappa(set: u32) -> u32 {
 pub fn record_bytes(set: u32) -> u32 {
     // SAFETY: no pointer is passed.
     unsafe { foreign::bursztok_record_bytes(set) }
+}
+
+pub fn packed_bytes(set: u32) -> u32 {
+    // SAFETY: no pointer is passed.
+    unsafe { foreign::bursztok_packed_bytes(set) }
 }

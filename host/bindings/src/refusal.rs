@@ -117,9 +117,9 @@ impl Refusal {
             Refusal::ListsDiffer => "both lists are proper and differ",
             Refusal::Header { .. } => {
                 "header malformed, with the first byte of the first wrong field; shorter than \
-                 24, its length"
+                 24, its length; a spare bit set, its byte"
             }
-            Refusal::Room => "writer's output shorter than the total",
+            Refusal::Room => "output of a writer or a conversion shorter than the total",
             Refusal::KeyCounts => "counts wrong",
             Refusal::Unlisted { .. } => "no answer of the papers",
         }
@@ -198,8 +198,8 @@ mod tests {
         "sum of squares above B2 squared",
         "both lists are proper and differ",
         "header malformed, with the first byte of the first wrong field; shorter than 24, its \
-         length",
-        "writer's output shorter than the total",
+         length; a spare bit set, its byte",
+        "output of a writer or a conversion shorter than the total",
         "counts wrong",
     ];
 

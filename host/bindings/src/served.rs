@@ -188,14 +188,52 @@ pub fn write(set: u32, z1: &[i16], z2_dagger: &[i8], list: &[u16], out: &mut [u8
     ask(6, set, false, &read, &mut [out]).0
 }
 
+pub fn write_packed(
+    set: u32,
+    z1: &[i16],
+    z2_dagger: &[i8],
+    list: &[u16],
+    out: &mut [u8],
+) -> Answer {
+    let read = [bytes(z1), bytes(z2_dagger), bytes(list)];
+    ask(14, set, false, &read, &mut [out]).0
+}
+
 pub fn read(record: &[u8], z1: &mut [i16], z2_dagger: &mut [i8], list: &mut [u16]) -> Reading {
+    read_by(7, record, z1, z2_dagger, list)
+}
+
+pub fn read_packed(
+    record: &[u8],
+    z1: &mut [i16],
+    z2_dagger: &mut [i8],
+    list: &mut [u16],
+) -> Reading {
+    read_by(15, record, z1, z2_dagger, list)
+}
+
+fn read_by(
+    call: u32,
+    record: &[u8],
+    z1: &mut [i16],
+    z2_dagger: &mut [i8],
+    list: &mut [u16],
+) -> Reading {
     let mut written = [bytes_mut(z1), bytes_mut(z2_dagger), bytes_mut(list)];
-    let (Answer { number, place }, set, _) = ask(7, 0, false, &[record], &mut written);
+    let (Answer { number, place }, set, _) = ask(call, 0, false, &[record], &mut written);
     Reading {
         number,
         place,
         set: set as u32,
     }
+}
+
+pub fn pack(record: &[u8], out: &mut [u8]) -> Answer {
+    ask(16, 0, false, &[record], &mut [out]).0
+}
+
+pub fn unpack(record: &[u8], out: &mut [u8]) -> Answer {
+    ask(17, 0, false, &[record], &mut [out]).0
 }
 
 pub fn z1_section(record: &[u8]) -> (Answer, Part) {
@@ -216,9 +254,13 @@ fn section(call: u32, record: &[u8]) -> (Answer, Part) {
 }
 
 pub fn kappa(set: u32) -> u32 {
-    ask(14, set, false, &[], &mut []).0.number
+    ask(18, set, false, &[], &mut []).0.number
 }
 
 pub fn record_bytes(set: u32) -> u32 {
-    ask(15, set, false, &[], &mut []).0.number
+    ask(19, set, false, &[], &mut []).0.number
+}
+
+pub fn packed_bytes(set: u32) -> u32 {
+    ask(20, set, false, &[], &mut []).0.number
 }

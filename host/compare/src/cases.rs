@@ -1,20 +1,21 @@
 //! The cases of a run. Case numbers below `Plan::planned()` go through every edge of a key's counts,
-//! every call, set and pair of faults, every header bit, every length of a record, every count of
-//! words and every step of the draw, masks that make the dropped digits cost their figure, and what 0
-//! stands for on each call; those above are drawn at random. A case is made from the run's seed and
-//! its number alone.
+//! every call, set and pair of faults, every header bit and pair of fields, every length of a record,
+//! every spare bit, every bit of an entry in both forms of a record, every count of words and every
+//! step of the draw, masks that make the dropped digits cost their figure, and what 0 stands for on
+//! each call; those above are drawn at random. A case is made from the run's seed and its number
+//! alone.
 
 use crate::buffers::{difference, Buffers, Left};
 use crate::costs::{steer, Cost};
 use crate::faults::{faults_of, Fault};
 use crate::inputs::right_input;
 use crate::{library, walks};
-use second::record::{total, HEADER};
+use second::form::HEADER;
 use second::testing::calls::{self, Answered, Call, Input, Outputs};
 use second::testing::edges::Edge;
 use second::testing::keys::{self, Key};
 use second::testing::noise::Noise;
-use second::Set;
+use second::{Form, Set};
 use std::collections::HashMap;
 use std::ops::Range;
 
@@ -35,8 +36,20 @@ enum Planned {
     },
     /// Each bit of one header byte turned.
     HeaderByte { set: u32, byte: usize },
+    /// Each field of the header wrong, alone and with each other one.
+    HeaderFields { set: u32 },
     /// Every length of the record up to two past its total.
     RecordLengths { set: u32 },
+    /// A record of the other form, as it is and with what it takes to look like one of this form.
+    OtherForm { set: u32 },
+    /// Each spare bit set, alone and with faults that go before and after it.
+    SpareBits { set: u32 },
+    /// Each bit of an entry set, at places that start at every bit of a byte.
+    EntryBits { set: u32 },
+    /// Outputs for a record from none to some bytes too long.
+    RecordOutputs { set: u32 },
+    /// Signatures there and back through both forms.
+    BothForms { set: u32 },
     /// A walk with every count of words, from none to all that it takes.
     WordCounts { set: u32 },
     /// Walks through the draw's four steps that fail at every place in turn.
@@ -56,11 +69,39 @@ impl Planned {
             Planned::Counts { set, .. }
             | Planned::Pair { set, .. }
             | Planned::HeaderByte { set, .. }
+            | Planned::HeaderFields { set }
             | Planned::RecordLengths { set }
+            | Planned::OtherForm { set }
+            | Planned::SpareBits { set }
+            | Planned::EntryBits { set }
+            | Planned::RecordOutputs { set }
+            | Planned::BothForms { set }
             | Planned::WordCounts { set }
             | Planned::Walks { set }
             | Planned::Figure { set, .. } => Some(set),
             Planned::Defaults { .. } | Planned::Sizes => None,
+        }
+    }
+
+    /// Whether it runs the call.
+    fn runs(self, call: Call) -> bool {
+        let (takes, writes) = (call.takes(), call.writes());
+        match self {
+            Planned::Counts { call: run, .. } | Planned::Pair { call: run, .. } => run == call,
+            Planned::HeaderByte { .. }
+            | Planned::HeaderFields { .. }
+            | Planned::RecordLengths { .. }
+            | Planned::OtherForm { .. } => takes.is_some(),
+            Planned::SpareBits { .. } => takes == Some(Form::Packed),
+            Planned::RecordOutputs { .. } => writes.is_some(),
+            Planned::EntryBits { .. } | Planned::BothForms { .. } => {
+                writes.is_some() || matches!(call, Call::Read | Call::ReadPacked)
+            }
+            Planned::WordCounts { .. } | Planned::Walks { .. } | Planned::Figure { .. } => {
+                call == Call::Respond
+            }
+            Planned::Defaults { .. } => call.takes_set(),
+            Planned::Sizes => !call.has_number(),
         }
     }
 }
@@ -103,7 +144,13 @@ impl Plan {
                 }
             }
             planned.extend((0..HEADER).map(|byte| Planned::HeaderByte { set, byte }));
+            planned.push(Planned::HeaderFields { set });
             planned.push(Planned::RecordLengths { set });
+            planned.push(Planned::OtherForm { set });
+            planned.push(Planned::SpareBits { set });
+            planned.push(Planned::EntryBits { set });
+            planned.push(Planned::RecordOutputs { set });
+            planned.push(Planned::BothForms { set });
             planned.extend((0..3).map(|_| Planned::WordCounts { set }));
             planned.push(Planned::Walks { set });
             planned.extend([true, false].map(|up| Planned::Figure { set, up }));
@@ -125,24 +172,13 @@ impl Plan {
     /// The planned cases that run this call; of those for one number, where one is given, only its
     /// own.
     pub fn about(&self, call: Call, number: Option<u32>) -> Vec<u64> {
-        let about = |planned: &Planned| match planned {
-            Planned::Counts { call: run, .. } | Planned::Pair { call: run, .. } => *run == call,
-            Planned::HeaderByte { .. } | Planned::RecordLengths { .. } => {
-                Call::ON_RECORD.contains(&call)
-            }
-            Planned::WordCounts { .. } | Planned::Walks { .. } | Planned::Figure { .. } => {
-                call == Call::Respond
-            }
-            Planned::Defaults { .. } => call.takes_set(),
-            Planned::Sizes => !call.has_number(),
-        };
         let asks = |planned: &Planned| match (planned.number(), number) {
             (Some(own), Some(wanted)) => own == wanted,
             _ => true,
         };
         let numbered = self.planned.iter().zip(0..);
         numbered
-            .filter_map(|(planned, case)| (about(planned) && asks(planned)).then_some(case))
+            .filter_map(|(planned, case)| (planned.runs(call) && asks(planned)).then_some(case))
             .collect()
     }
 
@@ -177,19 +213,39 @@ impl Plan {
                 found.story = format!("header byte {byte}, set {set}");
                 let right = self.input(number, Call::Read, set, &[], noise);
                 for bit in 0..8 {
-                    let mut input = right.clone();
-                    input.record[byte] ^= 1 << bit;
-                    found.compare_record_calls(&input);
+                    found.compare_records(&right, |_, record| record[byte] ^= 1 << bit);
                 }
+            }
+            Planned::HeaderFields { set } => {
+                found.story = format!("fields of a header, set {set}");
+                found.compare_fields(&self.input(number, Call::Read, set, &[], noise));
             }
             Planned::RecordLengths { set } => {
                 found.story = format!("lengths of a record, set {set}");
-                let right = self.input(number, Call::Read, set, &[], noise);
-                for length in 0..right.record.len() + 3 {
-                    let mut input = right.clone();
-                    input.record.resize(length, 0);
-                    found.compare_record_calls(&input);
+                found.compare_lengths(&self.input(number, Call::Read, set, &[], noise));
+            }
+            Planned::OtherForm { set } => {
+                found.story = format!("records of the other form, set {set}");
+                found.compare_other_form(self.input(number, Call::Read, set, &[], noise));
+            }
+            Planned::SpareBits { set } => {
+                found.story = format!("spare bits, set {set}");
+                found.compare_spare_bits(&self.input(number, Call::Unpack, set, &[], noise));
+            }
+            Planned::EntryBits { set } => {
+                found.story = format!("bits of an entry, set {set}");
+                found.compare_entry_bits(&self.input(number, Call::Read, set, &[], noise));
+            }
+            Planned::RecordOutputs { set } => {
+                found.story = format!("outputs for a record, set {set}");
+                found.compare_outputs(self.input(number, Call::Write, set, &[], noise));
+            }
+            Planned::BothForms { set } => {
+                found.story = format!("both forms of a record, set {set}");
+                for _ in 0..4 {
+                    found.both_forms(&self.input(number, Call::Write, set, &[], noise));
                 }
+                found.both_forms_of_ones(self.input(number, Call::Write, set, &[], noise));
             }
             Planned::WordCounts { set } => {
                 found.story = format!("counts of words, set {set}");
@@ -247,8 +303,9 @@ impl Plan {
                         set,
                         ..Input::default()
                     };
-                    found.compare(Call::Kappa, &input);
-                    found.compare(Call::RecordBytes, &input);
+                    for call in Call::ALL.into_iter().filter(|call| !call.has_number()) {
+                        found.compare(call, &input);
+                    }
                 }
             }
         }
@@ -276,8 +333,12 @@ impl Plan {
         if call == Call::Respond && left.number() == 0 {
             found.follow(&input, &left);
         }
-        if call == Call::Read && left.number() == 0 {
-            found.write_again(&input, &left);
+        if left.number() == 0 {
+            match call.takes() {
+                Some(form) if call.writes().is_some() => found.convert_back(form, &input, &left),
+                Some(form) if left.answered.set != 0 => found.write_again(form, &input, &left),
+                _ => {}
+            }
         }
         found
     }
@@ -294,8 +355,11 @@ impl Plan {
     ) -> Input {
         let of = asked(call, set);
         let mut input = right_input(of, self.key(number, of), noise);
+        if let Some(form) = call.writes() {
+            input.lengths.record = form.total(of);
+        }
         for fault in faults {
-            (fault.apply)(&mut input, noise);
+            fault.apply(call, &mut input, noise);
         }
         if input.set == of.number() {
             input.set = set;
@@ -323,7 +387,7 @@ fn asked(call: Call, number: u32) -> Set {
 
 impl Found {
     /// Runs the call on both sides and compares all that they leave behind.
-    fn compare(&mut self, call: Call, input: &Input) -> Left {
+    pub fn compare(&mut self, call: Call, input: &Input) -> Left {
         // Another fill for each call of a case.
         let fill = self.answers.len() as u64;
         let library = Left::by(library::run, call, input, fill);
@@ -390,15 +454,9 @@ impl Found {
         }
     }
 
-    fn compare_record_calls(&mut self, input: &Input) {
-        for call in Call::ON_RECORD {
-            self.compare(call, input);
-        }
-    }
-
-    /// Demands 2 and 3 for a signature that was given out: it is written, read back, rebuilt to
-    /// the commitment, which is the same with rests, and compared. A checker with the old default
-    /// says the same.
+    /// Demands 2 and 3 for a signature that was given out: it is written and read back in both
+    /// forms, rebuilt to the commitment, which is the same with rests, and compared. A checker with
+    /// the old default says the same.
     fn follow(&mut self, input: &Input, given_out: &Left) {
         let mut next = input.clone();
         next.z1 = given_out.buffers.z1().to_vec();
@@ -425,39 +483,10 @@ impl Found {
                 self.fail(call, "a list differs from itself");
             }
         }
-        next.lengths.record = total(set);
-        let written = self.compare(Call::Write, &next);
-        next.record = written.buffers.record().to_vec();
-        let read = self.compare(Call::Read, &next);
-        let same = read.answered.set == set.number()
-            && read.buffers.z1() == next.z1
-            && read.buffers.z2_dagger() == next.z2_dagger
-            && read.buffers.list()[..set.kappa()] == next.list;
-        if written.number() != 0 || read.number() != 0 || !same {
-            let what = "a record does not read back as the signature";
-            self.fail(Call::Read, what);
-        }
+        self.both_forms(&next);
     }
 
-    /// Demand 2: a record that reads is the one that the writer makes of it.
-    fn write_again(&mut self, input: &Input, read: &Left) {
-        let Ok(set) = Set::asked(read.answered.set) else {
-            return self.fail(Call::Read, format!("it answers set {}", read.answered.set));
-        };
-        let mut next = input.clone();
-        next.set = read.answered.set;
-        next.z1 = read.buffers.z1().to_vec();
-        next.z2_dagger = read.buffers.z2_dagger().to_vec();
-        next.list = read.buffers.list()[..set.kappa()].to_vec();
-        next.lengths.record = input.record.len();
-        let written = self.compare(Call::Write, &next);
-        if written.number() != 0 || written.buffers.record() != input.record {
-            let what = "it does not make the record that was read";
-            self.fail(Call::Write, what);
-        }
-    }
-
-    fn fail(&mut self, call: Call, what: impl std::fmt::Display) {
+    pub fn fail(&mut self, call: Call, what: impl std::fmt::Display) {
         self.failures.push(format!("{}: {what}", call.name()));
     }
 }
@@ -485,6 +514,50 @@ mod tests {
             for number in 0..Set::ABOVE {
                 let name = call.name();
                 assert!(planned.contains(&(call, number)), "{name}, set {number}");
+            }
+        }
+    }
+
+    #[test]
+    fn every_number_has_the_cases_of_both_forms() {
+        let planned = Plan::new(1).planned;
+        let kinds: [fn(&Planned) -> bool; 7] = [
+            |planned| matches!(planned, Planned::HeaderFields { .. }),
+            |planned| matches!(planned, Planned::RecordLengths { .. }),
+            |planned| matches!(planned, Planned::OtherForm { .. }),
+            |planned| matches!(planned, Planned::SpareBits { .. }),
+            |planned| matches!(planned, Planned::EntryBits { .. }),
+            |planned| matches!(planned, Planned::RecordOutputs { .. }),
+            |planned| matches!(planned, Planned::BothForms { .. }),
+        ];
+        for kind in kinds {
+            let numbers = planned.iter().filter(|planned| kind(planned));
+            let numbers: Vec<u32> = numbers.filter_map(|planned| planned.number()).collect();
+            assert_eq!(numbers, (0..Set::ABOVE).collect::<Vec<u32>>());
+        }
+    }
+
+    #[test]
+    fn the_cases_of_a_set_reach_every_number_of_the_packed_calls() {
+        let calls = [
+            Call::WritePacked,
+            Call::ReadPacked,
+            Call::Pack,
+            Call::Unpack,
+        ];
+        let mut plan = Plan::new(1);
+        let cases = calls.into_iter().flat_map(|call| plan.about(call, Some(7)));
+        let cases: BTreeSet<u64> = cases.collect();
+        let mut reached = BTreeSet::new();
+        for case in cases {
+            let found = plan.run(case);
+            assert_eq!(found.failures, [""; 0], "{}", found.story);
+            reached.extend(found.answers);
+        }
+        for call in calls {
+            for &number in call.numbers() {
+                let name = call.name();
+                assert!(reached.contains(&(call, number)), "{name}, {number}");
             }
         }
     }

@@ -1,12 +1,12 @@
 //! Right inputs at random.
 
 use second::parameters::THRESHOLDS;
-use second::record::total;
+use second::record::write_in;
 use second::testing::boundary::signature_of_sum;
 use second::testing::calls::{Input, OutputLengths};
 use second::testing::keys::Key;
 use second::testing::noise::Noise;
-use second::Set;
+use second::{Form, Set};
 
 /// More words than any walk takes whose trials all succeed: two trials of at most 31 places.
 const PASSING_WORDS: usize = 62;
@@ -30,6 +30,7 @@ pub fn right_input(set: Set, key: &Key, noise: &mut Noise) -> Input {
         z1: Vec::new(),
         z2_dagger: Vec::new(),
         record: Vec::new(),
+        packed: Vec::new(),
         lengths: OutputLengths::stated(set),
     };
     let sum = match noise.below(4) {
@@ -45,16 +46,14 @@ pub fn short_mask(set: Set, noise: &mut Noise) -> Vec<i16> {
     noise.mask_of_deviation(set.sigma() as f64 / 4.0)
 }
 
-/// Puts a signature of this sum, and the record of it.
+/// Puts a signature of this sum, and the records of it.
 fn sign_with_sum(input: &mut Input, set: Set, sum: i64, noise: &mut Noise) {
     (input.z1, input.z2_dagger) = signature_of_sum(set, sum, noise);
-    input.record = vec![0; total(set)];
-    let outcome = second::write(
-        input.set,
-        &input.z1,
-        &input.z2_dagger,
-        &input.list,
-        &mut input.record,
-    );
-    outcome.expect("the signature is within the limits");
+    for form in Form::ALL {
+        let (z1, z2_dagger, list) = (&input.z1, &input.z2_dagger, &input.list);
+        let mut record = vec![0; form.total(set)];
+        let outcome = write_in(form, set.number(), z1, z2_dagger, list, &mut record);
+        outcome.expect("the signature is within the limits");
+        *input.record_in(form) = record;
+    }
 }

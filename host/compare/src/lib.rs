@@ -5,6 +5,7 @@ pub mod buffers;
 pub mod cases;
 pub mod costs;
 pub mod faults;
+pub mod forms;
 pub mod inputs;
 pub mod library;
 pub mod program;

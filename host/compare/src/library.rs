@@ -1,6 +1,6 @@
 //! The library's side of a comparison.
 
-use bursztok::{Challenge, Refusal, Section};
+use bursztok::{Challenge, Reading, Refusal, Section};
 use second::testing::calls::{Answered, Call, Input, Outputs};
 
 /// Runs a call of the library.
@@ -21,6 +21,12 @@ pub fn run(call: Call, input: &Input, out: Outputs) -> Answered {
         Call::Compare => bursztok::compare(*set, list, &input.hashed),
         Call::CompareDefaultOne => bursztok::compare_default_one(*set, list, &input.hashed),
         Call::Write => bursztok::write(*set, &input.z1, &input.z2_dagger, list, out.record),
+        Call::WritePacked => {
+            let (z1, z2_dagger) = (&input.z1, &input.z2_dagger);
+            bursztok::write_packed(*set, z1, z2_dagger, list, out.record)
+        }
+        Call::Pack => bursztok::pack(&input.record, out.record),
+        Call::Unpack => bursztok::unpack(&input.packed, out.record),
         Call::Respond => {
             let challenge = Challenge {
                 f: &input.f,
@@ -40,17 +46,19 @@ pub fn run(call: Call, input: &Input, out: Outputs) -> Answered {
             };
         }
         Call::Read => {
-            let reading = bursztok::read(&input.record, out.z1, out.z2_dagger, out.list);
-            return Answered {
-                set: reading.set,
-                ..answered(reading.outcome)
-            };
+            let (z1, z2_dagger, list) = (out.z1, out.z2_dagger, out.list);
+            return reading(bursztok::read(&input.record, z1, z2_dagger, list));
+        }
+        Call::ReadPacked => {
+            let (z1, z2_dagger, list) = (out.z1, out.z2_dagger, out.list);
+            return reading(bursztok::read_packed(&input.packed, z1, z2_dagger, list));
         }
         Call::Z1Section => return section(&input.record, bursztok::z1_section),
         Call::Z2Section => return section(&input.record, bursztok::z2_section),
         Call::ListSection => return section(&input.record, bursztok::list_section),
         Call::Kappa => return Answered::of_size(bursztok::kappa(*set)),
         Call::RecordBytes => return Answered::of_size(bursztok::record_bytes(*set)),
+        Call::PackedBytes => return Answered::of_size(bursztok::packed_bytes(*set)),
     };
     answered(outcome)
 }
@@ -59,6 +67,13 @@ fn answered(outcome: Result<(), Refusal>) -> Answered {
     match outcome {
         Ok(()) => Answered::new((0, 0)),
         Err(refusal) => Answered::new((refusal.number(), refusal.place())),
+    }
+}
+
+fn reading(reading: Reading) -> Answered {
+    Answered {
+        set: reading.set,
+        ..answered(reading.outcome)
     }
 }
 

@@ -1,9 +1,9 @@
 //! The tables of docs/DATASHEET.md say what the library, the second program, docs/CALLS.md and
-//! docs/PERFORMANCE.md say; its version, and the header's table and figures, are the same.
+//! docs/PERFORMANCE.md say; its version, and the header's table and figures, are the same, and the
+//! calls of the header are those of CALLS.
 
 use second::parameters::{KeyCounts, LIST_BUFFER, N, THRESHOLDS};
-use second::record::LONGEST;
-use second::Set;
+use second::{Form, Set};
 use std::fs;
 
 fn text(name: &str) -> String {
@@ -26,7 +26,7 @@ type Number = fn(Set) -> usize;
 
 #[test]
 fn the_sets_are_those_of_the_library() {
-    let wanted: [(&str, Number); 11] = [
+    let wanted: [(&str, Number); 12] = [
         ("what the dropped digits cost, at most", |set| {
             set.figure() as usize
         }),
@@ -50,6 +50,9 @@ fn the_sets_are_those_of_the_library() {
             size_of::<[i16; N]>() + size_of::<[i8; N]>() + 2 * set.kappa()
         }),
         ("record, bytes", |set| bursztok::record_bytes(set.number())),
+        ("packed record, bytes", |set| {
+            bursztok::packed_bytes(set.number())
+        }),
     ];
     let sheet = text("docs/DATASHEET.md");
     for (name, number) in wanted {
@@ -83,6 +86,12 @@ fn the_calls_have_the_figures_of_calls_and_performance() {
             both("commitment", "commitment with rests"),
         ),
         ("writer", of_set_1("record written")),
+        ("packed reader", of_set_1("packed record read")),
+        ("packed writer", of_set_1("packed record written")),
+        (
+            "packing, unpacking",
+            both("record packed", "record unpacked"),
+        ),
         ("each other call", "not counted".to_string()),
     ];
     for (call, instructions) in wanted {
@@ -107,7 +116,9 @@ fn the_version_is_the_headers() {
 fn the_headers_table_has_the_numbers_of_the_sets() {
     let header = text("include/bursztok.h");
     let table = header.split(" *    set  kappa ").nth(1);
-    let rows = table.expect("the header has the table").lines().skip(1);
+    let mut rows = table.expect("the header has the table").lines();
+    let names = rows.next().expect("the table has names");
+    assert!(names.ends_with(" record bytes  packed bytes"), "{names}");
     for (set, row) in Set::ALL.into_iter().zip(rows) {
         let cells = row.trim_start_matches(" *").replace(',', "");
         let told: Vec<&str> = cells.split_whitespace().collect();
@@ -120,8 +131,9 @@ fn the_headers_table_has_the_numbers_of_the_sets() {
         } else {
             format!("as set {}", set.like().number())
         };
-        let record_bytes = bursztok::record_bytes(number);
-        let wanted = format!("{number} {kappa} {others} {record_bytes}");
+        let plain = bursztok::record_bytes(number);
+        let packed = bursztok::packed_bytes(number);
+        let wanted = format!("{number} {kappa} {others} {plain} {packed}");
         assert_eq!(told.join(" "), wanted);
     }
 }
@@ -133,11 +145,52 @@ fn the_headers_lengths_are_those_of_the_bindings() {
         ("VECTOR", bursztok::VECTOR, N),
         ("THRESHOLDS", bursztok::THRESHOLDS, THRESHOLDS),
         ("LIST", bursztok::LIST, LIST_BUFFER),
-        ("RECORD", bursztok::RECORD, LONGEST),
+        ("RECORD", bursztok::RECORD, Form::Plain.longest()),
+        ("PACKED", bursztok::PACKED, Form::Packed.longest()),
     ] {
         assert_eq!(length, second, "{name}");
         let line = format!("\n#define BURSZTOK_{name} {length}\n");
         assert!(header.contains(&line), "{line}");
+    }
+}
+
+#[test]
+fn the_header_tells_the_sizes() {
+    let header = text("include/bursztok.h");
+    let words: Vec<&str> = header.split([' ', '*', '\n']).collect();
+    let words: Vec<&str> = words.into_iter().filter(|word| !word.is_empty()).collect();
+    let header = words.join(" ");
+    for size in [
+        bursztok::kappa,
+        bursztok::record_bytes,
+        bursztok::packed_bytes,
+    ] {
+        let sizes = Set::ALL.map(|set| size(set.number()).to_string());
+        let said = format!(
+            "{} for 1 to {}, {} for 0",
+            sizes.join(", "),
+            sizes.len(),
+            size(0)
+        );
+        assert!(header.contains(&said), "{said}");
+    }
+}
+
+/// What a line declares: the name of a call.
+fn declared(line: &str) -> Option<&str> {
+    let (kind, rest) = line.split_once(" bursztok_")?;
+    let kind = kind == "uint32_t" || kind.starts_with("bursztok_");
+    kind.then_some(rest.split_once('(')?.0)
+}
+
+#[test]
+fn the_calls_of_the_header_are_those_of_calls() {
+    let (header, calls) = (text("include/bursztok.h"), text("docs/CALLS.md"));
+    let names: Vec<&str> = header.lines().filter_map(declared).collect();
+    assert_eq!(names.len(), second::testing::calls::Call::ALL.len());
+    for name in names {
+        let cell = format!("| `bursztok_{name}` |");
+        assert_eq!(calls.matches(&cell).count(), 1, "{name}");
     }
 }
 

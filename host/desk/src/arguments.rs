@@ -1,7 +1,7 @@
 //! The options of a subcommand, and the files that they name.
 
 use crate::failure::Failure;
-use second::Set;
+use second::{Form, Set};
 use shell::console::shown;
 use shell::files::{is_stream, same_file};
 use shell::options::Options;
@@ -33,6 +33,14 @@ impl Arguments {
 
     pub fn has(&self, flag: &str) -> bool {
         self.options.has(flag)
+    }
+
+    /// The form of the record that is to be written.
+    pub fn form(&self) -> Form {
+        match self.has("packed") {
+            true => Form::Packed,
+            false => Form::Plain,
+        }
     }
 
     pub fn words(&self) -> &[String] {

@@ -7,7 +7,7 @@ use crate::lent::Vector;
 use crate::record::Record;
 use bursztok::Refusal;
 use second::parameters::KeyCounts;
-use second::Set;
+use second::{Form, Set};
 use std::ops::RangeInclusive;
 
 /// Adds the causes of a refusal that the lent vectors show.
@@ -86,10 +86,10 @@ pub fn explain(refused: &mut Refused, set: u32, vectors: &[Vector]) {
     }
 }
 
-/// The cause of refusal 13.
-pub fn explain_header(refused: &mut Refused, record: &Record) {
+/// The cause of refusal 13, where records of these forms are taken.
+pub fn explain_header(refused: &mut Refused, record: &Record, forms: &[Form]) {
     if matches!(refused.refusal, Refusal::Header { .. }) {
-        let what = wrong_field(record, refused.refusal.place());
+        let what = wrong_field(record, forms, refused.refusal.place());
         refused.causes.push(format!("{}: {what}", record.source));
     }
 }
@@ -199,6 +199,7 @@ mod tests {
             call: "test",
             refusal: Refusal::outcome(number, place).unwrap_err(),
             set: 0,
+            form: None,
             words: None,
             causes: Vec::new(),
         };

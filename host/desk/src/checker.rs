@@ -28,13 +28,7 @@ fn read_and_rebuild(arguments: &Arguments) -> Result<Rebuilt, Failure> {
     let a: Vec<u16> = lent.read(arguments, "a", Some(VECTOR))?;
     let record = Record::open(&arguments.input("record")?)?;
     let signature = record.read()?;
-    let Signature {
-        z1,
-        z2_dagger,
-        list,
-        ..
-    } = &signature;
-    record.lend(&mut lent, z1, z2_dagger, list);
+    record.lend(&mut lent, signature.entries());
     let vector = explained(rebuild(&a, &signature), signature.set, &lent)?;
     Ok(Rebuilt {
         record,
@@ -48,10 +42,12 @@ pub fn rebuild_alone(arguments: &Arguments) -> Result<Done, Failure> {
     let out = arguments.output("out", &["a", "record"])?;
     let rebuilt = read_and_rebuild(arguments)?;
     write_file(&out, &text_of("rebuilt", &rebuilt.vector))?;
-    let (set, out) = (rebuilt.signature.set, out.display());
+    let Signature { set, form, .. } = rebuilt.signature;
+    let out = out.display();
     Ok(Done {
         call: "rebuild",
         set,
+        form: Some(form),
         said: format!(
             "The record reads as one of set {set}, and its rebuilt vector is in {out}. Nothing is \
              said of any sheet: 'bursztok check' does that."
@@ -119,13 +115,14 @@ fn compare(
     source: String,
     said: String,
 ) -> Result<Done, Failure> {
-    let set = rebuilt.signature.set;
+    let Signature { set, form, .. } = rebuilt.signature;
     rebuilt.lent.add("hashed", source, &hashed, None);
     let outcome = bursztok::compare(set, &rebuilt.signature.list, &hashed).named("comparison");
     explained(outcome, set, &rebuilt.lent)?;
     Ok(Done {
         call: "comparison",
         set,
+        form: Some(form),
         said,
         ..Done::default()
     })

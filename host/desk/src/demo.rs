@@ -4,14 +4,14 @@
 
 use crate::arguments::Arguments;
 use crate::failure::{Failure, Named, Refused};
-use crate::record::{rebuild, record_of, Record, Signature};
+use crate::record::{bytes_of, rebuild, record_name, record_of, Record, Signature};
 use crate::signer;
 use bursztok::{Challenge, Response, VECTOR};
 use second::testing::hash::list_of;
 use second::testing::keys::{published, Key};
 use second::testing::noise::{thresholds, Noise};
 use second::testing::sheet::{Try, WORDS};
-use second::Set;
+use second::{Form, Set};
 use shell::console::print_error;
 use shell::files::{make_folder, write_files};
 use shell::numbers::{joined, text_of};
@@ -34,6 +34,7 @@ pub fn demo(arguments: &Arguments) -> Result<ExitCode, Failure> {
         .ok_or_else(|| arguments.fault(format!("--set is {number}, expected 0 to {last}")))?;
     let seed = arguments.number_or("seed", 1)?;
     let sheets = arguments.number_or("sheets", 0)?;
+    let form = arguments.form();
     let folder = arguments.given("folder").map(Path::new);
     if let Some(folder) = folder {
         make_folder(folder)?;
@@ -44,13 +45,15 @@ pub fn demo(arguments: &Arguments) -> Result<ExitCode, Failure> {
     say!("The main job end to end, with set {number} and seed {seed}.\n");
     let key = make_key(set, &mut noise)?;
     let signed = sign_aloud(set, &key, &mut noise)?;
-    let record = hand_over(set, &signed)?;
+    let record = hand_over(form, set, &signed)?;
     let signature = check_aloud(set, &key, &record, &signed.committed)?;
-    show_damage(set, &key, &record, &signature)?;
+    show_damage(form, &record)?;
+    let outcome = check(set, &key, &signature, CHANGED_SHEET).map(|_| ());
+    show("the sheet's figure changed, the record whole", 12, outcome)?;
     if sheets > 0 {
         say!("\n6. {sheets} sheets more, each signed, written, read and checked.");
         let start = Instant::now();
-        let sign = |sheet: &str| sign_one(set, &key, sheet, &mut noise);
+        let sign = |sheet: &str| sign_one(form, set, &key, sheet, &mut noise);
         let tries = sign_and_check_many(set, &key, sheets, sign)?;
         let seconds = start.elapsed().as_secs_f64();
         say!("   All {sheets} hold; {tries} tries, {seconds:.1} seconds.");
@@ -62,7 +65,13 @@ pub fn demo(arguments: &Arguments) -> Result<ExitCode, Failure> {
             "\nThe sheet (sheet.txt), its record (sheet.record), the key and what the signing took"
         );
         say!("are in {folder}. Sign it again, and check it, with:");
-        say!("  bursztok sign --set {number} --folder {folder} --record {folder}/again.record");
+        let packed = match form {
+            Form::Plain => "",
+            Form::Packed => " --packed",
+        };
+        say!(
+            "  bursztok sign --set {number} --folder {folder} --record {folder}/again.record{packed}"
+        );
         say!("  bursztok check --a {folder}/a.txt --record {folder}/again.record \\");
         say!("    --hash 'bursztok-second hash {number}' --sheet {folder}/sheet.txt");
     }
@@ -183,18 +192,23 @@ fn sign_aloud(set: Set, key: &Key, noise: &mut Noise) -> Result<Signed, Failure>
     unreachable!("tries have no end")
 }
 
-fn hand_over(set: Set, signed: &Signed) -> Result<Vec<u8>, Failure> {
-    let record = record_of_try(set, signed)?;
-    say!(
-        "3. The ship writes the record, {} bytes, and hands it to the shore.\n",
-        record.len()
-    );
+fn hand_over(form: Form, set: Set, signed: &Signed) -> Result<Vec<u8>, Failure> {
+    let record = record_of_try(form, set, signed)?;
+    let (name, count) = (record_name(form), record.len());
+    let than = match form {
+        Form::Plain => String::new(),
+        Form::Packed => {
+            let plain = bytes_of(Form::Plain, set.number());
+            format!(" where the plain one has {plain}")
+        }
+    };
+    say!("3. The ship writes the {name}, {count} bytes{than}, and hands it to the shore.\n");
     Ok(record)
 }
 
-fn record_of_try(set: Set, signed: &Signed) -> Result<Vec<u8>, Failure> {
+fn record_of_try(form: Form, set: Set, signed: &Signed) -> Result<Vec<u8>, Failure> {
     let list = &signed.last_try.list;
-    record_of(set.number(), &signed.z1, &signed.z2_dagger, list)
+    record_of(form, set.number(), &signed.z1, &signed.z2_dagger, list)
 }
 
 fn read_record(record: &[u8]) -> Result<Signature, Failure> {
@@ -236,26 +250,59 @@ fn check_aloud(
     Ok(signature)
 }
 
-/// Damage, and the refusal that it must bring.
-fn show_damage(set: Set, key: &Key, record: &[u8], signature: &Signature) -> Result<(), Failure> {
+/// Damage to a record: what it is, the number that it must bring, and how it is done.
+type Damage = (&'static str, u32, fn(&mut Vec<u8>));
+
+const DAMAGE: [Damage; 3] = [
+    ("a letter of the header changed", 13, |record| {
+        record[2] = b'X'
+    }),
+    ("a byte of the list's count changed", 13, |record| {
+        record[14] = 99
+    }),
+    ("the last byte lost", 13, |record| {
+        record.pop();
+    }),
+];
+
+const PLAIN_DAMAGE: [Damage; 2] = [
+    ("entry 3 of z1 made far too large", 10, |record| {
+        record[31] = 0x7f
+    }),
+    ("the list's last place sent past 511", 5, |record| {
+        *last(record) = 0xff
+    }),
+];
+
+const PACKED_DAMAGE: [Damage; 3] = [
+    ("a spare bit of the last byte set", 13, |record| {
+        *last(record) |= 0x80
+    }),
+    // Its four high bits are the low ones of this byte.
+    ("entry 3 of z1 made far too large", 10, |record| {
+        record[30] = record[30] & 0xf0 | 0x07
+    }),
+    ("the list's first places lost", 5, |record| {
+        record[1112..1120].fill(0)
+    }),
+];
+
+fn last(record: &mut [u8]) -> &mut u8 {
+    record.last_mut().expect("a record has bytes")
+}
+
+fn show_damage(form: Form, record: &[u8]) -> Result<(), Failure> {
     say!("5. Damaged on the way, it is refused:");
-    let with = |at: usize, byte: u8| {
-        let mut damaged = record.to_vec();
-        damaged[at] = byte;
-        read_record(&damaged).map(|_| ())
+    let of_form: &[Damage] = match form {
+        Form::Plain => &PLAIN_DAMAGE,
+        Form::Packed => &PACKED_DAMAGE,
     };
-    show("a letter of the header changed", 13, with(2, b'X'))?;
-    show("a byte of the list's count changed", 13, with(14, 99))?;
-    let cut = read_record(&record[..record.len() - 1]).map(|_| ());
-    show("the last byte lost", 13, cut)?;
-    show("entry 3 of z1 made far too large", 10, with(31, 0x7f))?;
-    show(
-        "the list's last place sent past 511",
-        5,
-        with(record.len() - 1, 0xff),
-    )?;
-    let outcome = check(set, key, signature, CHANGED_SHEET).map(|_| ());
-    show("the sheet's figure changed, the record whole", 12, outcome)
+    for (damage, number, change) in DAMAGE.iter().chain(of_form) {
+        let mut damaged = record.to_vec();
+        change(&mut damaged);
+        show(damage, *number, read_record(&damaged).map(|_| ()))?;
+    }
+    Ok(())
 }
 
 fn show(damage: &str, expected: u32, outcome: Result<(), Failure>) -> Result<(), Failure> {
@@ -275,6 +322,7 @@ fn show(damage: &str, expected: u32, outcome: Result<(), Failure>) -> Result<(),
 
 /// Signs a sheet, with as many tries as it takes, and writes its record.
 fn sign_one(
+    form: Form,
     set: Set,
     key: &Key,
     sheet: &str,
@@ -285,7 +333,7 @@ fn sign_one(
         tries += 1;
         let (signed, response) = try_to_sign(set, key, sheet, noise)?;
         if given_out(response)? {
-            return Ok((record_of_try(set, &signed)?, tries));
+            return Ok((record_of_try(form, set, &signed)?, tries));
         }
     }
 }
@@ -321,10 +369,14 @@ mod tests {
     use crate::failure::Failure;
     use second::testing::keys::published;
     use second::testing::noise::Noise;
-    use second::Set;
+    use second::{Form, Set};
 
     /// The number that many sheets end with, where the third record is made from the right one.
-    fn ends_with(change: impl Fn(&mut Vec<u8>), other_sheet: bool) -> (u64, Option<u32>) {
+    fn ends_with(
+        form: Form,
+        change: impl Fn(&mut Vec<u8>),
+        other_sheet: bool,
+    ) -> (u64, Option<u32>) {
         let mut noise = Noise::new(5);
         let key = published(Set::II, &mut noise);
         let mut count = 0;
@@ -336,7 +388,7 @@ mod tests {
             } else {
                 sheet
             };
-            let (mut record, tries) = sign_one(Set::II, &key, sheet, &mut noise)?;
+            let (mut record, tries) = sign_one(form, Set::II, &key, sheet, &mut noise)?;
             if third {
                 change(&mut record);
             }
@@ -352,9 +404,12 @@ mod tests {
 
     #[test]
     fn every_sheet_of_many_is_checked() {
-        assert_eq!(ends_with(|_| {}, false), (5, None));
-        assert_eq!(ends_with(|_| {}, true), (3, Some(12)));
-        assert_eq!(ends_with(|record| record[2] ^= 1, false), (3, Some(13)));
+        for form in Form::ALL {
+            assert_eq!(ends_with(form, |_| {}, false), (5, None));
+            assert_eq!(ends_with(form, |_| {}, true), (3, Some(12)));
+            let changed = ends_with(form, |record| record[2] ^= 1, false);
+            assert_eq!(changed, (3, Some(13)));
+        }
     }
 
     #[test]

@@ -2,6 +2,7 @@
 
 use crate::json::Value;
 use bursztok::Refusal;
+use second::Form;
 use std::fmt;
 use std::process::ExitCode;
 
@@ -23,6 +24,8 @@ pub struct Refused {
     pub refusal: Refusal,
     /// The set that was asked for, or that the record states; 0 where none is known.
     pub set: u32,
+    /// The form whose letters open the record, where there is one.
+    pub form: Option<Form>,
     /// The words that the draw took, where the call has a draw.
     pub words: Option<u64>,
     /// The files at fault, and how, as far as the call tells it.
@@ -39,6 +42,7 @@ impl Failure {
             call,
             refusal,
             set: 0,
+            form: None,
             words: None,
             causes: Vec::new(),
         })
@@ -75,6 +79,7 @@ impl Failure {
                 ("meaning", text(refused.refusal.meaning())),
                 ("words", refused.words.map_or(Value::Null, Value::Number)),
                 ("set", number(refused.set)),
+                ("form", form_value(refused.form)),
                 ("cause", Value::Text(refused.causes.join("; "))),
             ],
             Failure::Differs(message) | Failure::Fault(message) | Failure::Usage(message) => vec![
@@ -84,10 +89,16 @@ impl Failure {
                 ("meaning", Value::Null),
                 ("words", Value::Null),
                 ("set", Value::Null),
+                ("form", Value::Null),
                 ("cause", text(message)),
             ],
         }
     }
+}
+
+/// The form of a record in a JSON answer.
+pub fn form_value(form: Option<Form>) -> Value {
+    form.map_or(Value::Null, |form| Value::Text(form.name().to_string()))
 }
 
 impl From<String> for Failure {

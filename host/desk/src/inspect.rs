@@ -3,9 +3,11 @@
 use crate::answer::{json_of, Done};
 use crate::arguments::Arguments;
 use crate::failure::Failure;
-use crate::header::{FIELDS, HEADER};
-use crate::record::{pairs, Record};
-use bursztok::{Refusal, Section, VECTOR};
+use crate::header::{fields, spare_bits, HEADER};
+use crate::record::{bytes_of, reader_name, saved, Part, Record};
+use bursztok::{Refusal, VECTOR};
+use second::form::Section;
+use second::{Form, Set};
 use shell::console::print;
 use shell::numbers::joined;
 use shell::{say, warn};
@@ -81,24 +83,35 @@ fn in_lines(paths: &[PathBuf], json: bool) -> ExitCode {
 fn one(path: &Path) -> Result<Done, Failure> {
     let record = Record::open(path)?;
     let signature = record.read()?;
-    let set = signature.set;
+    let (set, form) = (signature.set, signature.form);
+    let (size, saved) = (record.size(), saved(set));
     Ok(Done {
-        call: "reader",
+        call: reader_name(form),
         set,
-        said: format!("a signature of set {set}, {}", record.size()),
+        form: Some(form),
+        said: match form {
+            Form::Plain => format!("a signature of set {set}, {size}"),
+            Form::Packed => format!("a packed signature of set {set}, {size}, {saved} saved"),
+        },
         ..Done::default()
     })
 }
 
-/// The header field by field, the sections, and the reader's verdict.
+/// The header field by field, the sections, what packing saves, and the reader's verdict.
 fn in_full(record: &Record, outcome: &Result<u32, Failure>) -> String {
     let mut text = format!("{}: {}\n", record.source, record.size());
-    let refusal = match outcome {
-        Err(Failure::Refused(refused)) => Some(refused.refusal),
-        _ => None,
+    let verdict = match outcome {
+        Err(Failure::Refused(refused)) => Err(refused.refusal),
+        _ => Ok(()),
     };
-    text += &header(&record.bytes, refusal);
-    text += &sections(&record.bytes, refusal);
+    text += &header(&record.bytes, verdict);
+    let parts = Section::ALL.map(|section| record.part(section, verdict));
+    for (section, part) in Section::ALL.into_iter().zip(&parts) {
+        text += &section_line(record.form(), section, part, verdict);
+    }
+    if parts.iter().all(Result::is_ok) {
+        text += &form_lines(record, verdict);
+    }
     if let Ok(set) = outcome {
         text += &format!("reader      done, a signature of set {set}\n");
     }
@@ -106,9 +119,9 @@ fn in_full(record: &Record, outcome: &Result<u32, Failure>) -> String {
 }
 
 /// The fields of the header, as far as the bytes go, with a mark at the one that was refused.
-fn header(bytes: &[u8], refusal: Option<Refusal>) -> String {
+fn header(bytes: &[u8], verdict: Result<(), Refusal>) -> String {
     let mut text = String::new();
-    for field in FIELDS {
+    for field in fields() {
         let start = field.bytes.start;
         if bytes.len() < field.bytes.end {
             let count = bytes.len();
@@ -116,83 +129,92 @@ fn header(bytes: &[u8], refusal: Option<Refusal>) -> String {
             break;
         }
         let place = start as u32;
-        let wrong = refusal == Some(Refusal::Header { place }) && bytes.len() >= HEADER;
-        let mark = if wrong { "  <-- wrong" } else { "" };
-        let (name, content) = (field.name, field.content(bytes));
+        let wrong = verdict == Err(Refusal::Header { place }) && bytes.len() >= HEADER;
+        let (name, content, mark) = (field.name, field.content(bytes), mark(wrong));
         text += &format!("header {start:>2}   {name:<20} {content}{mark}\n");
     }
     text
 }
 
-/// The sections, with a mark at the one whose entry was refused.
-fn sections(bytes: &[u8], refusal: Option<Refusal>) -> String {
-    let z1 = bursztok::z1_section(bytes);
-    let z2_dagger = bursztok::z2_section(bytes);
-    let list = bursztok::list_section(bytes);
-    let place = match refusal {
-        Some(Refusal::Entry { place }) => Some(place as usize),
-        _ => None,
-    };
-    let z1_mark = place.filter(|&place| place < 512);
-    let z2_mark = place.and_then(|place| place.checked_sub(512));
-    let z2_numbers: Vec<i8> = z2_dagger.part.iter().map(|&byte| byte as i8).collect();
-    let list_wrong = refusal == Some(Refusal::List);
-    [
-        section(
-            bytes,
-            "z1",
-            z1,
-            &pairs(z1.part, i16::from_le_bytes),
-            z1_mark,
-        ),
-        section(bytes, "z2 dagger", z2_dagger, &z2_numbers, z2_mark),
-        section(
-            bytes,
-            "list",
-            list,
-            &pairs(list.part, u16::from_le_bytes),
-            None,
-        ),
-        match list_wrong {
-            true => "            <-- wrong: not of the stated form\n".to_string(),
-            false => String::new(),
-        },
-    ]
-    .concat()
+/// What stands behind a field that was refused.
+fn mark(wrong: bool) -> &'static str {
+    match wrong {
+        true => "  <-- wrong",
+        false => "",
+    }
 }
 
-/// Where a section lies, its range and its first entries.
-fn section<T>(
-    record: &[u8],
-    name: &str,
+/// Where a section lies, the bits of its entries, their range and the first ones; with a mark at the
+/// entry or the list that was refused.
+fn section_line(
+    form: Form,
     section: Section,
-    entries: &[T],
-    wrong: Option<usize>,
-) -> String
-where
-    T: Copy + Ord + std::fmt::Display,
-{
-    if let Err(refusal) = section.outcome {
-        return format!("{name:<11} refused with {refusal}\n");
-    }
+    part: &Result<Part, Refusal>,
+    verdict: Result<(), Refusal>,
+) -> String {
+    let (name, first) = match section {
+        Section::Z1 => ("z1", 0),
+        Section::Z2Dagger => ("z2 dagger", VECTOR),
+        Section::List => ("list", 2 * VECTOR),
+    };
+    let Part { bytes, entries } = match part {
+        Ok(part) => part,
+        Err(refusal) => return format!("{name:<11} refused with {refusal}\n"),
+    };
     let (Some(least), Some(most)) = (entries.iter().min(), entries.iter().max()) else {
         return String::new();
     };
-    let start = section.part.as_ptr() as usize - record.as_ptr() as usize;
-    let (shown, more) = match entries.len() {
-        VECTOR => (SHOWN, " .."),
-        count => (count, ""),
+    let (shown, more) = match section {
+        Section::List => (entries.len(), ""),
+        _ => (SHOWN, " .."),
     };
     let mut text = format!(
-        "{name:<11} bytes {start} .. {}, {} entries from {least} to {most}: {}{more}\n",
-        start + section.part.len() - 1,
+        "{name:<11} bytes {} .. {}, {} entries of {} bits from {least} to {most}: {}{more}\n",
+        bytes.start,
+        bytes.end - 1,
         entries.len(),
+        form.bits(section),
         joined(&entries[..shown]),
     );
-    if let Some((place, entry)) = wrong.and_then(|place| Some((place, entries.get(place)?))) {
-        text += &format!("            <-- wrong: entry {place} is {entry}\n");
+    let wrong = match verdict {
+        Err(Refusal::Entry { place }) => {
+            let place = (place as usize).checked_sub(first);
+            let entry = place.and_then(|place| Some((place, entries.get(place)?)));
+            entry.map(|(place, entry)| format!("entry {place} is {entry}"))
+        }
+        Err(Refusal::List) if section == Section::List => {
+            Some("not of the stated form".to_string())
+        }
+        _ => None,
+    };
+    if let Some(wrong) = wrong {
+        text += &format!("            <-- wrong: {wrong}\n");
     }
     text
+}
+
+/// The spare bits of a packed record, with a mark where they were refused; the form, and what packing
+/// saves.
+fn form_lines(record: &Record, verdict: Result<(), Refusal>) -> String {
+    let number = record.stated_set();
+    let [plain, packed] = Form::ALL.map(|form| bytes_of(form, number));
+    let saved = saved(number);
+    let spare = match Set::stated(number) {
+        Some(set) if record.form() == Form::Packed => {
+            let (byte, bits) = spare_bits(set);
+            let place = byte as u32;
+            let mark = mark(verdict == Err(Refusal::Header { place }));
+            let (count, content) = (bits.count_ones(), record.bytes[byte] & bits);
+            let ending = if count == 1 { "" } else { "s" };
+            format!("spare       {count} bit{ending} of byte {byte}: {content}{mark}\n")
+        }
+        _ => String::new(),
+    };
+    let form = match record.form() {
+        Form::Plain => format!("plain; packed it has {packed} bytes, {saved} fewer"),
+        Form::Packed => format!("packed; plain it has {plain} bytes, {saved} are saved"),
+    };
+    format!("{spare}form        {form}\n")
 }
 
 /// The entries that are shown of a vector. A list is shown whole.

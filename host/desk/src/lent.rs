@@ -2,6 +2,7 @@
 
 use crate::arguments::Arguments;
 use crate::failure::Failure;
+use second::Form;
 use shell::files::is_stream;
 use shell::numbers::{read_numbers, Number};
 use std::path::Path;
@@ -21,6 +22,8 @@ pub struct Vector {
 #[derive(Default)]
 pub struct Lent {
     pub vectors: Vec<Vector>,
+    /// The form of the record that some of them come from.
+    pub form: Option<Form>,
 }
 
 impl Lent {

@@ -1,12 +1,14 @@
-//! The subcommands that write and read records.
+//! The subcommands that write and read records, and those that convert them.
 
 use crate::answer::Done;
 use crate::arguments::Arguments;
 use crate::failure::Failure;
 use crate::lent::Lent;
-use crate::record::{record_of, Record};
+use crate::record::{reader_name, writer_name, Record};
+use crate::record::{record_name, record_of, saved};
 use crate::signer::explained;
 use bursztok::VECTOR;
+use second::Form;
 use shell::files::{make_folder, same_file, write_file, write_files};
 use shell::numbers::{joined, text_of};
 use std::path::{Path, PathBuf};
@@ -18,16 +20,46 @@ pub fn write(arguments: &Arguments) -> Result<Done, Failure> {
     let z1: Vec<i16> = lent.read(arguments, "z1", Some(VECTOR))?;
     let z2_dagger: Vec<i8> = lent.read(arguments, "z2", Some(VECTOR))?;
     let list: Vec<u16> = lent.read(arguments, "list", None)?;
-    let record = explained(record_of(set, &z1, &z2_dagger, &list), set, &lent)?;
+    let form = arguments.form();
+    let record = explained(record_of(form, set, &z1, &z2_dagger, &list), set, &lent)?;
     write_file(&out, &record)?;
+    let (name, count, out) = (record_name(form), record.len(), out.display());
     Ok(Done {
-        call: "writer",
+        call: writer_name(form),
         set,
-        said: format!(
-            "The record of {} bytes is in {}.",
-            record.len(),
-            out.display()
-        ),
+        form: Some(form),
+        said: format!("The {name} of {count} bytes is in {out}."),
+        ..Done::default()
+    })
+}
+
+pub fn pack(arguments: &Arguments) -> Result<Done, Failure> {
+    convert(arguments, Form::Plain, "packing", "fewer than it had")
+}
+
+pub fn unpack(arguments: &Arguments) -> Result<Done, Failure> {
+    convert(arguments, Form::Packed, "unpacking", "more than it had")
+}
+
+/// Converts a record of this form.
+fn convert(
+    arguments: &Arguments,
+    form: Form,
+    call: &'static str,
+    than: &str,
+) -> Result<Done, Failure> {
+    let out = arguments.output("out", &["record"])?;
+    let record = Record::open(&arguments.input("record")?)?;
+    let converted = record.converted(form)?;
+    write_file(&out, &converted)?;
+    let (set, other) = (record.stated_set(), form.other());
+    let (name, count, out) = (record_name(other), converted.len(), out.display());
+    let saved = saved(set);
+    Ok(Done {
+        call,
+        set,
+        form: Some(other),
+        said: format!("The {name} of {count} bytes is in {out}, {saved} {than}."),
         ..Done::default()
     })
 }
@@ -53,8 +85,9 @@ pub fn read(arguments: &Arguments) -> Result<Done, Failure> {
     make_folder(folder)?;
     write_files(&files)?;
     Ok(Done {
-        call: "reader",
+        call: reader_name(signature.form),
         set: signature.set,
+        form: Some(signature.form),
         said: format!(
             "A signature of set {}; z1.txt, z2.txt and list.txt are in {}. The list: {}",
             signature.set,

@@ -6,7 +6,7 @@ use crate::causes::explain;
 use crate::failure::{Failure, Named, Refused};
 use crate::histogram::histogram;
 use crate::lent::{source_of, Lent};
-use crate::record::record_of;
+use crate::record::{record_name, record_of};
 use bursztok::{Challenge, Response, THRESHOLDS, VECTOR};
 use shell::console::shown;
 use shell::files::{is_stream, write_file, write_files};
@@ -30,7 +30,10 @@ pub fn key_test(arguments: &Arguments) -> Result<Done, Failure> {
 
 /// An outcome with the causes of its refusal.
 pub fn explained<T>(outcome: Result<T, Failure>, set: u32, lent: &Lent) -> Result<T, Failure> {
-    let causes = |refused: &mut Refused| explain(refused, set, &lent.vectors);
+    let causes = |refused: &mut Refused| {
+        refused.form = lent.form;
+        explain(refused, set, &lent.vectors);
+    };
     outcome.map_err(|failure| failure.with(causes))
 }
 
@@ -102,15 +105,18 @@ pub fn sign(arguments: &Arguments) -> Result<Done, Failure> {
     let (mut z1, mut z2_dagger) = ([0; VECTOR], [0; VECTOR]);
     let response = bursztok::respond(set, challenge, &mut z1, &mut z2_dagger);
     explained(given_out(response), set, &lent)?;
-    let record = record_of(set, &z1, &z2_dagger, challenge.list)?;
+    let form = arguments.form();
+    let record = record_of(form, set, &z1, &z2_dagger, challenge.list)?;
     write_file(&out, &record)?;
     let (words, count, out) = (response.words, record.len(), out.display());
+    let name = record_name(form);
     Ok(Done {
         call: "response",
         set,
+        form: Some(form),
         words: Some(words),
         said: format!(
-            "The signature is given out, {words} words taken. The record of {count} bytes is in \
+            "The signature is given out, {words} words taken. The {name} of {count} bytes is in \
              {out}."
         ),
     })

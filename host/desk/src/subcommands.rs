@@ -51,11 +51,19 @@ const fn answers(
     }
 }
 
+/// One that writes a record, in the form that is asked for.
+const fn writes(subcommand: Subcommand) -> Subcommand {
+    Subcommand {
+        flags: &["packed", "json"],
+        ..subcommand
+    }
+}
+
 pub const SUBCOMMANDS: &[Subcommand] = &[
     Subcommand {
         name: "demo",
         values: &["set", "seed", "sheets", "folder"],
-        flags: &[],
+        flags: &["packed"],
         words: &[],
         help: help::DEMO,
         run: Run::Tells(demo::demo),
@@ -72,7 +80,7 @@ pub const SUBCOMMANDS: &[Subcommand] = &[
         help::COMMIT,
         signer::commit,
     ),
-    answers(
+    writes(answers(
         "sign",
         &[
             "set",
@@ -90,7 +98,7 @@ pub const SUBCOMMANDS: &[Subcommand] = &[
         ],
         help::SIGN,
         signer::sign,
-    ),
+    )),
     answers(
         "check",
         &["a", "record", "hash", "sheet", "rebuilt", "hashed"],
@@ -103,13 +111,15 @@ pub const SUBCOMMANDS: &[Subcommand] = &[
         help::REBUILD,
         checker::rebuild_alone,
     ),
-    answers(
+    writes(answers(
         "write",
         &["set", "folder", "z1", "z2", "list", "record"],
         help::WRITE,
         records::write,
-    ),
+    )),
     answers("read", &["record", "folder"], help::READ, records::read),
+    answers("pack", &["record", "out"], help::PACK, records::pack),
+    answers("unpack", &["record", "out"], help::UNPACK, records::unpack),
     Subcommand {
         name: "inspect",
         values: &["record"],

@@ -2,27 +2,15 @@
 
 mod setting;
 
-use second::Set;
-use setting::{expect, files_of, run, Folder, SHEET};
+use second::{Form, Set};
+use setting::{expect, record_of, run, Folder, SHEET};
 use std::path::Path;
-
-/// A signed sheet's record in the folder.
-fn record_of(set: Set, folder: &Folder) -> String {
-    files_of(set, folder);
-    let (path, record) = (folder.path(""), folder.path("record"));
-    let number = set.number().to_string();
-    let sign = [
-        "sign", "--set", &number, "--folder", &path, "--record", &record,
-    ];
-    expect(&sign, 0, "given out");
-    record
-}
 
 #[test]
 fn inspect_shows_every_field_and_section() {
     for set in Set::ALL {
         let folder = Folder::new(&format!("inspect-{}", set.number()));
-        let record = record_of(set, &folder);
+        let record = record_of(set, &folder, &[]);
         let bytes = std::fs::read(&record).unwrap();
         let (kappa, total) = (set.kappa(), 1560 + 2 * set.kappa());
         let number = set.number();
@@ -53,7 +41,7 @@ fn inspect_shows_every_field_and_section() {
             .chunks(2)
             .map(|pair| u16::from_le_bytes([pair[0], pair[1]]))
             .collect();
-        let section = |name: &str, start: usize, end: usize, entries: Vec<i64>| {
+        let section = |name: &str, start: usize, end: usize, bits: usize, entries: Vec<i64>| {
             let (least, most) = (entries.iter().min().unwrap(), entries.iter().max().unwrap());
             let count = entries.len();
             // The first of a vector, and all of a list.
@@ -64,17 +52,22 @@ fn inspect_shows_every_field_and_section() {
             };
             let first: Vec<String> = entries.iter().take(shown).map(i64::to_string).collect();
             format!(
-                "{name:<11} bytes {start} .. {end}, {count} entries from {least} to {most}: {}{more}",
+                "{name:<11} bytes {start} .. {end}, {count} entries of {bits} bits from {least} to \
+                 {most}: {}{more}",
                 first.join(" ")
             )
         };
-        assert_eq!(lines[12], section("z1", 24, 1047, second::ring::whole(&z1)));
-        let z2 = section("z2 dagger", 1048, 1559, second::ring::whole(&z2));
+        let z1 = section("z1", 24, 1047, 16, second::ring::whole(&z1));
+        assert_eq!(lines[12], z1);
+        let z2 = section("z2 dagger", 1048, 1559, 8, second::ring::whole(&z2));
         assert_eq!(lines[13], z2);
-        let list = section("list", 1560, total - 1, second::ring::whole(&list));
+        let list = section("list", 1560, total - 1, 16, second::ring::whole(&list));
         assert_eq!(lines[14], list);
+        let packed = Form::Packed.total(set);
+        let saved = total - packed;
+        let form = format!("form        plain; packed it has {packed} bytes, {saved} fewer");
         let done = format!("reader      done, a signature of set {number}");
-        assert_eq!(lines[15..], [done]);
+        assert_eq!(lines[15..], [form, done]);
         assert_eq!(run(&["inspect", "--record", &record]).1, said);
     }
 }
@@ -82,7 +75,7 @@ fn inspect_shows_every_field_and_section() {
 #[test]
 fn inspect_marks_what_is_wrong() {
     let folder = Folder::new("marks");
-    let record = record_of(Set::I, &folder);
+    let record = record_of(Set::I, &folder, &[]);
     let right = std::fs::read(&record).unwrap();
     let marked = |at: usize, byte: u8| {
         let mut bytes = right.clone();
@@ -125,7 +118,7 @@ fn inspect_marks_what_is_wrong() {
 #[test]
 fn inspect_takes_many_records() {
     let folder = Folder::new("many");
-    let record = record_of(Set::II, &folder);
+    let record = record_of(Set::II, &folder, &[]);
     let (cut, missing) = (folder.path("cut"), folder.path("missing"));
     let bytes = std::fs::read(&record).unwrap();
     std::fs::write(&cut, &bytes[..1605]).unwrap();
@@ -155,7 +148,7 @@ fn inspect_takes_many_records() {
 #[test]
 fn answers_are_given_as_json() {
     let folder = Folder::new("json");
-    let record = record_of(Set::I, &folder);
+    let record = record_of(Set::I, &folder, &[]);
     let (path, a, sheet) = (folder.path(""), folder.path("a.txt"), folder.path("sheet"));
     std::fs::write(&sheet, SHEET).unwrap();
     let answer = |words: &[&str], status: i32, line: &str| {
@@ -163,29 +156,44 @@ fn answers_are_given_as_json() {
         assert_eq!((code, err.as_str()), (status, ""), "{words:?}: {out}");
         assert_eq!(out, format!("{line}\n"));
     };
-    let done = |call: &str, words: &str| {
+    let done = |call: &str, form: &str| {
         format!(
             "{{\"status\":0,\"call\":\"{call}\",\"number\":0,\"place\":0,\"meaning\":\"done\",\
-             \"words\":{words},\"set\":1,\"cause\":\"\"}}"
+             \"words\":null,\"set\":1,\"form\":{form},\"cause\":\"\"}}"
         )
     };
+    let (plain, packed) = ("\"plain\"", "\"packed\"");
     let key_test = ["key-test", "--set", "1", "--folder", &path];
     answer(&key_test, 0, &done("key test", "null"));
     let out = folder.path("out");
     let commit = ["commit", "--set", "1", "--folder", &path, "--out", &out];
     answer(&commit, 0, &done("commitment", "null"));
     let rebuild = ["rebuild", "--a", &a, "--record", &record, "--out", &out];
-    answer(&rebuild, 0, &done("rebuild", "null"));
+    answer(&rebuild, 0, &done("rebuild", plain));
     let read = folder.path("read");
     let words = ["read", "--record", &record, "--folder", &read];
-    answer(&words, 0, &done("reader", "null"));
+    answer(&words, 0, &done("reader", plain));
     let words = ["write", "--set", "1", "--folder", &read, "--record", &out];
-    answer(&words, 0, &done("writer", "null"));
+    answer(&words, 0, &done("writer", plain));
+    let with_flag = [&words[..], &["--packed"]].concat();
+    answer(&with_flag, 0, &done("packed writer", packed));
+    let words = ["read", "--record", &out, "--folder", &read];
+    answer(&words, 0, &done("packed reader", packed));
+    let words = ["rebuild", "--a", &a, "--record", &out, "--out", &read];
+    let (_, told, _) = run(&[&words[..], &["--json"]].concat());
+    assert!(told.contains("\"status\":2,"), "{told}");
+    let unpacked = folder.path("unpacked");
+    let words = ["unpack", "--record", &out, "--out", &unpacked];
+    answer(&words, 0, &done("unpacking", plain));
+    let words = ["pack", "--record", &unpacked, "--out", &out];
+    answer(&words, 0, &done("packing", packed));
     let check = ["check", "--a", &a, "--record", &record, "--sheet", &sheet];
     let refused = |call: &str, number: u32, meaning: &str, words: &str, cause: &str| {
+        let form = if call == "comparison" { plain } else { "null" };
         format!(
             "{{\"status\":1,\"call\":\"{call}\",\"number\":{number},\"place\":0,\
-             \"meaning\":\"{meaning}\",\"words\":{words},\"set\":1,\"cause\":\"{cause}\"}}"
+             \"meaning\":\"{meaning}\",\"words\":{words},\"set\":1,\"form\":{form},\
+             \"cause\":\"{cause}\"}}"
         )
     };
     let short = [&check[..], &["--hash", "cat >/dev/null; echo 7"]].concat();
@@ -198,7 +206,8 @@ fn answers_are_given_as_json() {
     let cause = format!("{} holds 0 words", folder.path("words.txt"));
     answer(&sign, 1, &refused("response", 9, none, "0", &cause));
     let usage = "{\"status\":2,\"call\":null,\"number\":null,\"place\":null,\"meaning\":null,\
-                 \"words\":null,\"set\":null,\"cause\":\"key-test: --set is missing; try --help\"}";
+                 \"words\":null,\"set\":null,\"form\":null,\
+                 \"cause\":\"key-test: --set is missing; try --help\"}";
     answer(&["key-test"], 2, usage);
     // The other way of a check, where it fails without a number.
     folder.put("rebuilt", &[0; 512]);
@@ -245,6 +254,31 @@ fn the_demo_runs_for_every_set() {
 }
 
 #[test]
+fn the_demo_hands_packed_records_over() {
+    for set in Set::ALL {
+        let number = set.number().to_string();
+        let words = ["demo", "--set", &number, "--sheets", "3", "--packed"];
+        let (code, said, _) = run(&words);
+        assert_eq!(code, 0);
+        let [plain, packed] = Form::ALL.map(|form| form.total(set));
+        for line in [
+            &format!("the packed record, {packed} bytes where the plain one has {plain}, and"),
+            "number 13, place 0:",
+            "number 13, place 14:",
+            "number 13, place 18:",
+            &format!("number 13, place {}:", packed - 1),
+            "number 10, place 3:",
+            "number 5, place 0:",
+            "number 12, place 0:",
+            "All 3 hold;",
+            "holds on the shore",
+        ] {
+            assert!(said.contains(line), "{line}: {said}");
+        }
+    }
+}
+
+#[test]
 fn the_demo_takes_the_default_of_a_call() {
     expect(&["demo"], 0, "with set 4 and seed 1");
     expect(&["demo", "--set", "0"], 0, "with set 4 and seed 1");
@@ -260,6 +294,14 @@ fn the_demo_keeps_all_that_signing_takes() {
     let (record, again) = (folder.path("kept/sheet.record"), folder.path("again"));
     let sign = ["sign", "--set", "3", "--folder", &kept, "--record", &again];
     expect(&sign, 0, "given out");
+    assert_eq!(
+        std::fs::read(&record).unwrap(),
+        std::fs::read(&again).unwrap()
+    );
+    let demo = ["demo", "--set=3", "--seed=1", "--packed", "--folder", &kept];
+    expect(&demo, 0, "/again.record --packed\n");
+    let packed = [&sign[..], &["--packed"]].concat();
+    expect(&packed, 0, "The packed record of 1146 bytes");
     assert_eq!(
         std::fs::read(&record).unwrap(),
         std::fs::read(&again).unwrap()

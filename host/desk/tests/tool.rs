@@ -3,7 +3,7 @@
 mod setting;
 
 use second::testing::hash::list_of;
-use second::{Edition, Refusal, Set};
+use second::{Edition, Form, Refusal, Set};
 use setting::{expect, files_of, numbers, run, Folder, HASH, SHEET};
 use std::ffi::OsStr;
 use std::fs::File;
@@ -69,7 +69,7 @@ fn an_older_reader_refuses_the_record_of_a_new_set_at_byte_4() {
         let older = Edition::OLDER;
         let (mut z1, mut z2_dagger) = (vec![0; 512], vec![0; 512]);
         let mut list = vec![0; older.list_buffer()];
-        let reading = older.read(&bytes, &mut z1, &mut z2_dagger, &mut list);
+        let reading = older.read(Form::Plain, &bytes, &mut z1, &mut z2_dagger, &mut list);
         let wanted = match set.like() == set {
             true => (Ok(()), set.number()),
             false => (Err(Refusal::header(4)), 0),
@@ -495,7 +495,7 @@ fn a_word_that_is_not_utf8_is_told() {
     assert!(said.contains("is not text in UTF-8"), "{said}");
 }
 
-const SUBCOMMANDS: [&str; 10] = [
+const SUBCOMMANDS: [&str; 12] = [
     "demo",
     "key-test",
     "commit",
@@ -504,6 +504,8 @@ const SUBCOMMANDS: [&str; 10] = [
     "rebuild",
     "write",
     "read",
+    "pack",
+    "unpack",
     "inspect",
     "completion",
 ];
@@ -530,6 +532,9 @@ fn bad_usage_is_told() {
     );
     expect(&["key-test", "1"], 2, "'1' is one word too many");
     expect(&["inspect"], 2, "no record is named");
+    expect(&["pack"], 2, "pack: --out is missing");
+    expect(&["unpack", "--out", "x"], 2, "unpack: --record is missing");
+    expect(&["read", "--packed"], 2, "'--packed' is no option");
     expect(&["completion", "fish"], 2, "the shell is bash");
     expect(&["demo", "--set", "9"], 2, "expected 0 to 8");
     expect(&["demo", "--folder", ""], 2, "--folder wants a value");
@@ -550,6 +555,13 @@ fn every_subcommand_has_help_and_completion() {
     for option in ["--hash", "--sheet", "--rebuilt", "--hashed", "--json"] {
         assert!(check.contains(option));
         assert!(completion.contains(option));
+    }
+    for subcommand in ["sign", "write", "demo"] {
+        assert!(run(&["help", subcommand]).1.contains("[--packed]"));
+        let case = format!("        {subcommand}) options='--");
+        let mut cases = completion.lines();
+        let case = cases.find(|line| line.starts_with(&case)).unwrap();
+        assert!(case.contains(" --packed "), "{case}");
     }
     let read = Command::new("bash")
         .args(["-n", "-c", &completion])

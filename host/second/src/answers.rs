@@ -31,7 +31,7 @@ impl Refusal {
     pub const SUM: Refusal = Refusal::at(11, 0);
     /// Both lists are proper and differ.
     pub const LISTS_DIFFER: Refusal = Refusal::at(12, 0);
-    /// The writer's output is shorter than the total.
+    /// The output for a record is shorter than the total.
     pub const ROOM: Refusal = Refusal::at(14, 0);
     /// The counts of f or of g are wrong.
     pub const COUNTS: Refusal = Refusal::at(15, 0);
@@ -41,7 +41,8 @@ impl Refusal {
         Refusal::at(10, place as u32)
     }
 
-    /// The header is malformed: the first byte of the first wrong field, or the length under 24.
+    /// The header is malformed: the first byte of the first wrong field, or the length under 24. A
+    /// spare bit is set: its byte.
     pub const fn header(place: usize) -> Refusal {
         Refusal::at(13, place as u32)
     }

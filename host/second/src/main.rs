@@ -7,7 +7,7 @@ use second::testing::hash::list_of;
 use second::testing::keys::published;
 use second::testing::noise::{thresholds, Noise};
 use second::testing::sheet::sign;
-use second::{Edition, Set};
+use second::{Edition, Form as RecordForm, Set};
 use shell::console::{arguments, shown};
 use shell::files::{make_folder, read_file, write_files};
 use shell::numbers::{joined, read_numbers, text_of};
@@ -34,9 +34,11 @@ bursztok-second: test files for the desk's tool, made by the second program
       The same of standard input: the vector in two bytes an entry, low first, then the message,
       as 'bursztok check --hash' gives them.
   bursztok-second read RECORD
-      Prints what the reader answers for the file RECORD: number, place and set.
+      Prints what the reader answers for the file RECORD: number, place and set. A record that
+      opens with the packed letters goes to the packed reader.
   bursztok-second read-older RECORD
-      The same of the reader before the longer challenges, which knows sets 1 to 4.
+      The same of the reader before the longer challenges, which knows sets 1 to 4 and no packed
+      record.
 
 SET is 1 to 8, or 0 for set 4. '-' stands for standard input. Keys and hash are for tests only.
 Exit status: 0 done, 1 the reader refuses, 2 bad usage or bad file.";
@@ -74,8 +76,11 @@ fn run(words: &[String]) -> Result<ExitCode, String> {
         "header" => print_header(taken(&["SET", "SEED"])?.words())?,
         "hash" if rest.len() < 2 => hash_stream(taken(&["SET"])?.words())?,
         "hash" => hash_files(taken(&["SET", "VECTOR", "MESSAGE"])?.words())?,
-        "read" => return read(Edition::THIS, taken(&["RECORD"])?.words()),
-        "read-older" => return read(Edition::OLDER, taken(&["RECORD"])?.words()),
+        "read" => return read(Edition::THIS, &RecordForm::ALL, taken(&["RECORD"])?.words()),
+        "read-older" => {
+            let forms = [RecordForm::Plain];
+            return read(Edition::OLDER, &forms, taken(&["RECORD"])?.words());
+        }
         _ => return Err(format!("'{}' is no subcommand; try --help", shown(name))),
     }
     Ok(ExitCode::SUCCESS)
@@ -169,11 +174,14 @@ fn hash_stream(words: &[String]) -> Result<(), String> {
     Ok(())
 }
 
-fn read(edition: Edition, words: &[String]) -> Result<ExitCode, String> {
+/// What the reader of an edition answers that knows these forms.
+fn read(edition: Edition, forms: &[RecordForm], words: &[String]) -> Result<ExitCode, String> {
     let record = read_file(Path::new(&words[0]))?;
+    let form = RecordForm::of(&record).filter(|form| forms.contains(form));
+    let form = form.unwrap_or(RecordForm::Plain);
     let (mut z1, mut z2_dagger) = (vec![0; N], vec![0; N]);
     let mut list = vec![0; edition.list_buffer()];
-    let reading = edition.read(&record, &mut z1, &mut z2_dagger, &mut list);
+    let reading = edition.read(form, &record, &mut z1, &mut z2_dagger, &mut list);
     let (number, place) = number_and_place(reading.outcome);
     say!("number {number}, place {place}, set {}", reading.set);
     Ok(ExitCode::from(u8::from(number != 0)))

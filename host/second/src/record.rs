@@ -1,73 +1,12 @@
-//! "The record": the header, the writer, the reader and the three section calls.
+//! "The record", and paper 02's packed one (C-11): the writers, the readers, the conversions and the
+//! three section calls.
 
 use crate::answers::{number_and_place, Reading, Refusal};
+use crate::form::{bit, Form, Section, FIELDS, HEADER, TOTAL_FIELD};
 use crate::length_rule::length_rule;
-use crate::parameters::{require_lengths, require_vectors, Edition, Set, LIST_BUFFER, N};
+use crate::parameters::{require_lengths, require_vectors, Edition, Set};
 use crate::response::require_list;
-use crate::ring::whole;
-use std::ops::Range;
-
-/// The length of a header.
-pub const HEADER: usize = 24;
-
-const LETTERS: &[u8; 4] = b"BLB1";
-const Z1_AT: usize = HEADER;
-const Z2_DAGGER_AT: usize = Z1_AT + 2 * N;
-const LIST_AT: usize = Z2_DAGGER_AT + N;
-
-/// The length of the longest record.
-pub const LONGEST: usize = LIST_AT + 2 * LIST_BUFFER;
-
-/// The length of a record of this set.
-pub fn total(set: Set) -> usize {
-    LIST_AT + 2 * set.kappa()
-}
-
-/// The header of a record of this set.
-pub fn header(set: Set) -> [u8; HEADER] {
-    let numbers = [N, Z1_AT, N, Z2_DAGGER_AT, set.kappa(), LIST_AT, total(set)];
-    let mut header = [0; HEADER];
-    header[..4].copy_from_slice(LETTERS);
-    header[4] = set.number() as u8;
-    for (i, number) in numbers.into_iter().enumerate() {
-        header[6 + 2 * i..8 + 2 * i].copy_from_slice(&(number as u16).to_le_bytes());
-    }
-    header
-}
-
-/// The fields of a header after the set, in rising order.
-const FIELDS: [Range<usize>; 9] = [
-    5..6,
-    6..8,
-    8..10,
-    10..12,
-    12..14,
-    14..16,
-    16..18,
-    TOTAL_FIELD,
-    20..24,
-];
-const TOTAL_FIELD: Range<usize> = 18..20;
-
-/// A section of a record.
-#[derive(Clone, Copy, Debug, PartialEq, Eq)]
-pub enum Section {
-    Z1,
-    Z2Dagger,
-    List,
-}
-
-impl Section {
-    pub const ALL: [Section; 3] = [Section::Z1, Section::Z2Dagger, Section::List];
-
-    fn part(self, set: Set) -> Range<usize> {
-        match self {
-            Section::Z1 => Z1_AT..Z2_DAGGER_AT,
-            Section::Z2Dagger => Z2_DAGGER_AT..LIST_AT,
-            Section::List => LIST_AT..total(set),
-        }
-    }
-}
+use crate::ring::{whole, Whole};
 
 /// The writer: 1, 2, 5, 10, 11, 14. A longer output keeps its tail.
 pub fn write(
@@ -77,24 +16,43 @@ pub fn write(
     list: &[u16],
     out: &mut [u8],
 ) -> Result<(), Refusal> {
-    let set = Set::asked(set)?;
-    require_vectors(&[z1.len(), z2_dagger.len()])?;
-    require_list(set, list)?;
-    length_rule(set, &whole(z1), &whole(z2_dagger))?;
-    if out.len() < total(set) {
-        return Err(Refusal::ROOM);
-    }
-    let mut record = header(set).to_vec();
-    record.extend(z1.iter().flat_map(|entry| entry.to_le_bytes()));
-    record.extend(z2_dagger.iter().flat_map(|entry| entry.to_le_bytes()));
-    record.extend(list.iter().flat_map(|place| place.to_le_bytes()));
-    out[..record.len()].copy_from_slice(&record);
-    Ok(())
+    write_in(Form::Plain, set, z1, z2_dagger, list, out)
+}
+
+/// The packed writer: 1, 2, 5, 10, 11, 14. A longer output keeps its tail.
+pub fn write_packed(
+    set: u32,
+    z1: &[i16],
+    z2_dagger: &[i8],
+    list: &[u16],
+    out: &mut [u8],
+) -> Result<(), Refusal> {
+    write_in(Form::Packed, set, z1, z2_dagger, list, out)
 }
 
 /// The reader: 2, 13, 5, 10, 11. List entries after kappa keep their old contents.
 pub fn read(record: &[u8], z1: &mut [i16], z2_dagger: &mut [i8], list: &mut [u16]) -> Reading {
-    Edition::THIS.read(record, z1, z2_dagger, list)
+    Edition::THIS.read(Form::Plain, record, z1, z2_dagger, list)
+}
+
+/// The packed reader: 2, 13, 5, 10, 11. List entries after kappa keep their old contents.
+pub fn read_packed(
+    record: &[u8],
+    z1: &mut [i16],
+    z2_dagger: &mut [i8],
+    list: &mut [u16],
+) -> Reading {
+    Edition::THIS.read(Form::Packed, record, z1, z2_dagger, list)
+}
+
+/// From the plain form to the packed one: 13, 5, 10, 11, 14. A longer output keeps its tail.
+pub fn pack(record: &[u8], out: &mut [u8]) -> Result<(), Refusal> {
+    convert(Form::Plain, record, out)
+}
+
+/// From the packed form to the plain one: 13, 5, 10, 11, 14. A longer output keeps its tail.
+pub fn unpack(record: &[u8], out: &mut [u8]) -> Result<(), Refusal> {
+    convert(Form::Packed, record, out)
 }
 
 /// The z1 bytes of the lent record: 13 only.
@@ -112,16 +70,115 @@ pub fn list_section<'a>(record: &'a [u8], number: &mut u32, place: &mut u32) -> 
     Edition::THIS.section(Section::List, record, number, place)
 }
 
+/// The writer of a form.
+pub fn write_in(
+    form: Form,
+    set: u32,
+    z1: &[i16],
+    z2_dagger: &[i8],
+    list: &[u16],
+    out: &mut [u8],
+) -> Result<(), Refusal> {
+    let set = Set::asked(set)?;
+    require_vectors(&[z1.len(), z2_dagger.len()])?;
+    let held = Held::new(set, z1, z2_dagger, list);
+    held.require_proper()?;
+    held.put(form, out)
+}
+
+/// From this form to the other one.
+fn convert(form: Form, record: &[u8], out: &mut [u8]) -> Result<(), Refusal> {
+    let held = Edition::THIS.held(form, record)?;
+    held.put(form.other(), out)
+}
+
+/// What a record holds: a set and the entries of its sections.
+#[derive(Clone, Debug, PartialEq, Eq)]
+pub struct Held {
+    pub set: Set,
+    pub z1: Whole,
+    pub z2_dagger: Whole,
+    pub list: Whole,
+}
+
+impl Held {
+    pub fn new(set: Set, z1: &[i16], z2_dagger: &[i8], list: &[u16]) -> Held {
+        Held {
+            set,
+            z1: whole(z1),
+            z2_dagger: whole(z2_dagger),
+            list: whole(list),
+        }
+    }
+
+    /// What stands in the sections of a record, whose header is not looked at.
+    pub fn of(form: Form, set: Set, record: &[u8]) -> Held {
+        let decoded =
+            |section: Section| form.decoded(section, set, &record[form.part(section, set)]);
+        Held {
+            set,
+            z1: decoded(Section::Z1),
+            z2_dagger: decoded(Section::Z2Dagger),
+            list: decoded(Section::List),
+        }
+    }
+
+    /// The record that holds it. It may be one that no writer makes.
+    pub fn record(&self, form: Form) -> Vec<u8> {
+        let mut record = form.header(self.set).to_vec();
+        for section in Section::ALL {
+            record.extend(form.encoded(section, self.entries(section)));
+        }
+        record
+    }
+
+    pub fn entries(&self, section: Section) -> &Whole {
+        match section {
+            Section::Z1 => &self.z1,
+            Section::Z2Dagger => &self.z2_dagger,
+            Section::List => &self.list,
+        }
+    }
+
+    pub fn entries_mut(&mut self, section: Section) -> &mut Whole {
+        match section {
+            Section::Z1 => &mut self.z1,
+            Section::Z2Dagger => &mut self.z2_dagger,
+            Section::List => &mut self.list,
+        }
+    }
+
+    /// Refusals 5, 10 and 11.
+    fn require_proper(&self) -> Result<(), Refusal> {
+        require_list(self.set, &self.places())?;
+        length_rule(self.set, &self.z1, &self.z2_dagger)
+    }
+
+    /// Refusal 14, or the record at the front of the output.
+    fn put(&self, form: Form, out: &mut [u8]) -> Result<(), Refusal> {
+        let total = form.total(self.set);
+        let front = out.get_mut(..total).ok_or(Refusal::ROOM)?;
+        front.copy_from_slice(&self.record(form));
+        Ok(())
+    }
+
+    fn places(&self) -> Vec<u16> {
+        self.list.iter().map(|&place| place as u16).collect()
+    }
+}
+
 /// The calls on a record, as this edition answers them.
 impl Edition {
+    /// The reader of a form.
     pub fn read(
         self,
+        form: Form,
         record: &[u8],
         z1: &mut [i16],
         z2_dagger: &mut [i8],
         list: &mut [u16],
     ) -> Reading {
-        match self.read_signature(record, z1, z2_dagger, list) {
+        match self.read_signature(form, record, z1, z2_dagger, list) {
             Ok(set) => Reading {
                 outcome: Ok(()),
                 set: set.number(),
@@ -135,6 +192,7 @@ impl Edition {
 
     fn read_signature(
         self,
+        form: Form,
         record: &[u8],
         z1: &mut [i16],
         z2_dagger: &mut [i8],
@@ -142,35 +200,27 @@ impl Edition {
     ) -> Result<Set, Refusal> {
         require_vectors(&[z1.len(), z2_dagger.len()])?;
         require_lengths(&[list.len()], self.list_buffer())?;
-        let set = self.require_header(record)?;
-        let pairs = |section: Section| {
-            record[section.part(set)]
-                .chunks_exact(2)
-                .map(|pair| [pair[0], pair[1]])
-                .collect::<Vec<[u8; 2]>>()
-        };
-        let read_z1: Vec<i16> = pairs(Section::Z1)
-            .into_iter()
-            .map(i16::from_le_bytes)
-            .collect();
-        let read_z2: Vec<i8> = record[Section::Z2Dagger.part(set)]
-            .iter()
-            .map(|&byte| i8::from_le_bytes([byte]))
-            .collect();
-        let read_list: Vec<u16> = pairs(Section::List)
-            .into_iter()
-            .map(u16::from_le_bytes)
-            .collect();
-        require_list(set, &read_list)?;
-        length_rule(set, &whole(&read_z1), &whole(&read_z2))?;
-        z1.copy_from_slice(&read_z1);
-        z2_dagger.copy_from_slice(&read_z2);
-        list[..set.kappa()].copy_from_slice(&read_list);
-        Ok(set)
+        let held = self.held(form, record)?;
+        for (entry, held) in z1.iter_mut().zip(&held.z1) {
+            *entry = *held as i16;
+        }
+        for (entry, held) in z2_dagger.iter_mut().zip(&held.z2_dagger) {
+            *entry = *held as i8;
+        }
+        list[..held.set.kappa()].copy_from_slice(&held.places());
+        Ok(held.set)
     }
 
-    /// That part of the record itself, or with 13 the empty part at its start; number and place go
-    /// into the two lent numbers, refused or not.
+    /// What a record of the form holds, or one of 13, 5, 10, 11.
+    fn held(self, form: Form, record: &[u8]) -> Result<Held, Refusal> {
+        let set = self.require_header(form, record)?;
+        let held = Held::of(form, set, record);
+        held.require_proper()?;
+        Ok(held)
+    }
+
+    /// That part of the plain record itself, or with 13 the empty part at its start; number and
+    /// place go into the two lent numbers, refused or not.
     pub fn section<'a>(
         self,
         section: Section,
@@ -178,31 +228,35 @@ impl Edition {
         number: &mut u32,
         place: &mut u32,
     ) -> &'a [u8] {
-        let tested = self.require_header(record);
+        let tested = self.require_header(Form::Plain, record);
         (*number, *place) = number_and_place(tested.map(|_| ()));
         match tested {
-            Ok(set) => &record[section.part(set)],
+            Ok(set) => &record[Form::Plain.part(section, set)],
             Err(_) => &record[..0],
         }
     }
 
-    /// The set of a record with a well-formed header, or refusal 13.
-    fn require_header(self, record: &[u8]) -> Result<Set, Refusal> {
+    /// The set of a record whose header is well-formed and whose spare bits are zero, or refusal 13.
+    fn require_header(self, form: Form, record: &[u8]) -> Result<Set, Refusal> {
         if record.len() < HEADER {
             return Err(Refusal::header(record.len()));
         }
-        if &record[..4] != LETTERS {
+        if !record.starts_with(form.letters()) {
             return Err(Refusal::header(0));
         }
         let stated = self.stated(u32::from(record[4]));
         let set = stated.ok_or(Refusal::header(4))?;
-        let right = header(set);
+        let right = form.header(set);
         for field in FIELDS {
-            let other_length = field == TOTAL_FIELD && record.len() != total(set);
+            let other_length = field == TOTAL_FIELD && record.len() != form.total(set);
             if record[field.clone()] != right[field.clone()] || other_length {
                 return Err(Refusal::header(field.start));
             }
         }
-        Ok(set)
+        let mut spare = form.spare_bits(set).into_iter();
+        match spare.find(|&place| bit(record, place)) {
+            Some(place) => Err(Refusal::header(place / 8)),
+            None => Ok(set),
+        }
     }
 }

@@ -2,12 +2,11 @@
 //! set 1.
 
 use second::parameters::{LIST_BUFFER, N};
-use second::record::LONGEST;
 use second::testing::calls::{run, Answered, Call, Input, OutputLengths, Outputs};
 use second::testing::keys;
 use second::testing::noise::Noise;
 use second::testing::sheet::{sign, Signed};
-use second::{compare, compare_default_one, rebuild, rebuild_default_one, Refusal, Set};
+use second::{compare, compare_default_one, rebuild, rebuild_default_one, Form, Refusal, Set};
 
 /// A signed sheet of this set, and the public key.
 fn signed(set: Set) -> (Input, Signed) {
@@ -30,6 +29,7 @@ fn signed(set: Set) -> (Input, Signed) {
         z1: signature.z1,
         z2_dagger: signature.z2_dagger,
         record: Vec::new(),
+        packed: Vec::new(),
         lengths: OutputLengths::stated(set),
     };
     (input, signed)
@@ -42,7 +42,8 @@ type Written = Vec<Vec<i64>>;
 fn left(call: Call, input: &Input, number: u32) -> (Answered, Written) {
     let (mut rounded, mut rests) = (vec![0xabcd; N], vec![-79; N]);
     let (mut z1, mut z2_dagger) = (vec![-77; N], vec![-78; N]);
-    let (mut list, mut record) = (vec![0xabce; LIST_BUFFER], vec![0xab; LONGEST]);
+    let mut list = vec![0xabce; LIST_BUFFER];
+    let mut record = vec![0xab; Form::Plain.longest()];
     let outputs = Outputs {
         rounded: &mut rounded,
         rests: &mut rests,

@@ -2,14 +2,13 @@
 
 use second::key::{s1, s2};
 use second::parameters::{MASK_LIMIT, N, THRESHOLDS};
-use second::record::total;
 use second::response::{shifted, sign_choices, trials};
 use second::ring::whole;
 use second::testing::edges::{past_k, Edge};
 use second::testing::keys::{self, Key};
 use second::testing::noise::Noise;
 use second::testing::sheet::{sign, Try};
-use second::{commitment_with_rests, compare, key_test, rebuild, write, Refusal, Set};
+use second::{commitment_with_rests, compare, key_test, rebuild, write, Form, Refusal, Set};
 
 /// Each set with a longer challenge, and the set that it is like.
 fn longer() -> impl Iterator<Item = (Set, Set)> {
@@ -66,7 +65,7 @@ fn lists_are_not() {
             let signature = sign(set, &key, b"sheet", &mut noise).signature;
             let (z1, z2_dagger, list) = (signature.z1, signature.z2_dagger, signature.list);
             let verdicts = |number: u32| {
-                let (mut rebuilt, mut record) = (vec![0; N], vec![0; total(set)]);
+                let (mut rebuilt, mut record) = (vec![0; N], vec![0; Form::Plain.total(set)]);
                 [
                     compare(number, &list, &list),
                     rebuild(number, &key.a, &z1, &z2_dagger, &list, &mut rebuilt),

@@ -1,11 +1,12 @@
-//! 02, C-22: an older reader, which knows sets 1 to 4, refuses a new record at byte 4.
+//! 02, C-22: an older reader, which knows sets 1 to 4, refuses a new record at byte 4, and a packed
+//! one (C-11) at its letters.
 
+use second::form::{Section, HEADER};
 use second::parameters::N;
-use second::record::{total, Section, HEADER};
 use second::testing::keys;
 use second::testing::noise::Noise;
 use second::testing::sheet::sign;
-use second::{write, Edition, Reading, Refusal, Set};
+use second::{pack, write, Edition, Form, Reading, Refusal, Set};
 
 /// The record of a signed sheet.
 fn record(set: Set) -> Vec<u8> {
@@ -13,7 +14,7 @@ fn record(set: Set) -> Vec<u8> {
     let key = keys::published(set, &mut noise);
     let signature = sign(set, &key, b"sheet", &mut noise).signature;
     let (z1, z2_dagger, list) = (signature.z1, signature.z2_dagger, signature.list);
-    let mut record = vec![0; total(set)];
+    let mut record = vec![0; Form::Plain.total(set)];
     write(set.number(), &z1, &z2_dagger, &list, &mut record).unwrap();
     record
 }
@@ -24,7 +25,7 @@ type Read = (Reading, Vec<i16>, Vec<i8>, Vec<u16>);
 /// What an edition reads with a list buffer of this length.
 fn read_with(edition: Edition, length: usize, record: &[u8]) -> Read {
     let (mut z1, mut z2_dagger, mut list) = (vec![77; N], vec![78; N], vec![79; length]);
-    let reading = edition.read(record, &mut z1, &mut z2_dagger, &mut list);
+    let reading = edition.read(Form::Plain, record, &mut z1, &mut z2_dagger, &mut list);
     (reading, z1, z2_dagger, list)
 }
 
@@ -72,6 +73,15 @@ fn a_new_record_is_refused_at_byte_4() {
         let (reading, ..) = read_by(Edition::THIS, &record);
         assert_eq!((reading.outcome, reading.set), (Ok(()), set.number()));
         require_refused(&record, 4);
+    }
+}
+
+#[test]
+fn a_packed_record_is_refused_at_its_letters() {
+    for set in Set::ALL {
+        let mut packed = vec![0; Form::Packed.total(set)];
+        pack(&record(set), &mut packed).unwrap();
+        require_refused(&packed, 0);
     }
 }
 

@@ -1,9 +1,9 @@
 //! The program `bursztok-second`: what it writes and prints is what the calls make.
 
 use second::parameters::N;
-use second::record::total;
+use second::record::write_in;
 use second::testing::hash::list_of;
-use second::{commitment, key_test, respond, write, Set};
+use second::{commitment, key_test, respond, Form, Set};
 use shell::numbers::{joined, numbers_of, text_of, Number};
 use std::io::Write;
 use std::path::PathBuf;
@@ -142,7 +142,7 @@ fn the_hash_is_the_same_from_files_and_from_the_stream() {
 }
 
 #[test]
-fn a_record_is_read_and_a_new_one_refused_by_the_older_reader() {
+fn a_record_of_either_form_is_read_and_a_new_one_refused_by_the_older_reader() {
     let folder = Folder::new("read");
     let path = folder.path("record");
     let answers = |subcommand: &str, status: i32, said: &str| {
@@ -153,10 +153,16 @@ fn a_record_is_read_and_a_new_one_refused_by_the_older_reader() {
     };
     for set in Set::ALL {
         let (number, list) = (set.number(), (0..set.kappa() as u16).collect::<Vec<_>>());
-        let mut record = vec![0; total(set)];
-        write(number, &[0; N], &[0; N], &list, &mut record).unwrap();
-        std::fs::write(&path, &record).unwrap();
+        let written = |form: Form| {
+            let mut record = vec![0; form.total(set)];
+            write_in(form, number, &[0; N], &[0; N], &list, &mut record).unwrap();
+            std::fs::write(&path, &record).unwrap();
+        };
         let done = format!("number 0, place 0, set {number}");
+        written(Form::Packed);
+        answers("read", 0, &done);
+        answers("read-older", 1, "number 13, place 0, set 0");
+        written(Form::Plain);
         answers("read", 0, &done);
         if set.like() == set {
             answers("read-older", 0, &done);
@@ -164,8 +170,10 @@ fn a_record_is_read_and_a_new_one_refused_by_the_older_reader() {
             answers("read-older", 1, "number 13, place 4, set 0");
         }
     }
-    std::fs::write(&path, b"BLB").unwrap();
-    answers("read", 1, "number 13, place 3, set 0");
+    for letters in [b"BLB", b"BLP"] {
+        std::fs::write(&path, letters).unwrap();
+        answers("read", 1, "number 13, place 3, set 0");
+    }
 }
 
 #[test]

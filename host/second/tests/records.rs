@@ -1,10 +1,11 @@
-//! "The record": round trips both ways, the header's fields, the section calls.
+//! "The record", plain and packed: round trips both ways, the header's fields, the section calls.
 
+use second::form::HEADER;
 use second::parameters::{LIST_BUFFER, N};
-use second::record::{header, total, HEADER};
+use second::record::write_in;
 use second::testing::boundary::{largest_z2_dagger, signature_of_sum};
 use second::testing::noise::Noise;
-use second::{list_section, read, write, z1_section, z2_section, Reading, Refusal, Set};
+use second::{list_section, z1_section, z2_section, Edition, Form, Reading, Refusal, Set};
 
 /// A proper signature of the set: z1, z2 dagger and list.
 fn signature(set: Set, noise: &mut Noise) -> (Vec<i16>, Vec<i8>, Vec<u16>) {
@@ -13,17 +14,23 @@ fn signature(set: Set, noise: &mut Noise) -> (Vec<i16>, Vec<i8>, Vec<u16>) {
     (z1, z2_dagger, noise.list(set))
 }
 
-fn record(set: Set, noise: &mut Noise) -> Vec<u8> {
+fn record(form: Form, set: Set, noise: &mut Noise) -> Vec<u8> {
     let (z1, z2_dagger, list) = signature(set, noise);
-    let mut record = vec![0; total(set)];
-    write(set.number(), &z1, &z2_dagger, &list, &mut record).unwrap();
+    let mut record = vec![0; form.total(set)];
+    write_in(form, set.number(), &z1, &z2_dagger, &list, &mut record).unwrap();
     record
 }
 
-fn verdict(record: &[u8]) -> Result<(), Refusal> {
+/// What is read, with the output buffers.
+fn read(form: Form, record: &[u8]) -> (Reading, Vec<i16>, Vec<i8>, Vec<u16>) {
     let (mut z1, mut z2_dagger) = (vec![77; N], vec![77; N]);
     let mut list = vec![777; LIST_BUFFER];
-    let reading = read(record, &mut z1, &mut z2_dagger, &mut list);
+    let reading = Edition::THIS.read(form, record, &mut z1, &mut z2_dagger, &mut list);
+    (reading, z1, z2_dagger, list)
+}
+
+fn verdict(form: Form, record: &[u8]) -> Result<(), Refusal> {
+    let (reading, z1, z2_dagger, list) = read(form, record);
     if reading.outcome.is_err() {
         assert_eq!(reading.set, 0);
         assert_eq!((z1, z2_dagger), (vec![77; N], vec![77; N]));
@@ -32,29 +39,25 @@ fn verdict(record: &[u8]) -> Result<(), Refusal> {
     reading.outcome
 }
 
+/// Every form with every set.
+fn forms() -> impl Iterator<Item = (Form, Set)> {
+    let of = |form: Form| Set::ALL.into_iter().map(move |set| (form, set));
+    Form::ALL.into_iter().flat_map(of)
+}
+
 #[test]
 fn what_is_written_reads_back() {
     let mut noise = Noise::new(41);
-    for set in Set::ALL {
+    for (form, set) in forms() {
         for _ in 0..20 {
             let (z1, z2_dagger, list) = signature(set, &mut noise);
-            let mut record = vec![0xee; total(set) + 3];
-            let outcome = write(set.number(), &z1, &z2_dagger, &list, &mut record);
+            let total = form.total(set);
+            let mut record = vec![0xee; total + 3];
+            let outcome = write_in(form, set.number(), &z1, &z2_dagger, &list, &mut record);
             assert_eq!(outcome, Ok(()));
-            assert_eq!(
-                record[total(set)..],
-                [0xee; 3],
-                "a longer output keeps its tail"
-            );
+            assert_eq!(record[total..], [0xee; 3], "a longer output keeps its tail");
 
-            let (mut read_z1, mut read_z2) = (vec![0; N], vec![0; N]);
-            let mut read_list = vec![777; LIST_BUFFER];
-            let reading = read(
-                &record[..total(set)],
-                &mut read_z1,
-                &mut read_z2,
-                &mut read_list,
-            );
+            let (reading, read_z1, read_z2, read_list) = read(form, &record[..total]);
             let expected = Reading {
                 outcome: Ok(()),
                 set: set.number(),
@@ -71,49 +74,60 @@ fn what_is_written_reads_back() {
 #[test]
 fn what_reads_is_what_the_writer_makes_of_it() {
     let mut noise = Noise::new(42);
-    let mut reads = 0;
-    for round in 0..400 {
-        let set = Set::ALL[round % Set::ALL.len()];
-        let mut record = record(set, &mut noise);
-        for _ in 0..noise.between(1, 2) {
-            let at = noise.below(record.len());
-            record[at] ^= 1 << noise.below(8);
+    for form in Form::ALL {
+        let mut reads = 0;
+        for round in 0..400 {
+            let set = Set::ALL[round % Set::ALL.len()];
+            let mut record = record(form, set, &mut noise);
+            for _ in 0..noise.between(1, 2) {
+                let at = noise.below(record.len());
+                record[at] ^= 1 << noise.below(8);
+            }
+            let (reading, z1, z2_dagger, list) = read(form, &record);
+            if reading.outcome == Ok(()) {
+                reads += 1;
+                let kappa = Set::asked(reading.set).unwrap().kappa();
+                let mut again = vec![0; record.len()];
+                let list = &list[..kappa];
+                let outcome = write_in(form, reading.set, &z1, &z2_dagger, list, &mut again);
+                assert_eq!(outcome, Ok(()));
+                assert_eq!(again, record);
+            }
         }
-        let (mut z1, mut z2_dagger) = (vec![0; N], vec![0; N]);
-        let mut list = vec![0; LIST_BUFFER];
-        let reading = read(&record, &mut z1, &mut z2_dagger, &mut list);
-        if reading.outcome == Ok(()) {
-            reads += 1;
-            let kappa = Set::asked(reading.set).unwrap().kappa();
-            let mut again = vec![0; record.len()];
-            let outcome = write(reading.set, &z1, &z2_dagger, &list[..kappa], &mut again);
-            assert_eq!(outcome, Ok(()));
-            assert_eq!(again, record);
-        }
+        assert!(reads > 20, "only {reads} damaged records read");
     }
-    assert!(reads > 20, "only {reads} damaged records read");
 }
 
 #[test]
 fn set_zero_is_written_as_set_four() {
     let mut noise = Noise::new(43);
-    let (z1, z2_dagger, list) = signature(Set::IV, &mut noise);
-    let (mut zero, mut four) = (vec![0; total(Set::IV)], vec![0; total(Set::IV)]);
-    write(0, &z1, &z2_dagger, &list, &mut zero).unwrap();
-    write(4, &z1, &z2_dagger, &list, &mut four).unwrap();
-    assert_eq!(zero, four);
-    assert_eq!(zero[4], 4);
-    zero[4] = 0;
-    assert_eq!(verdict(&zero), Err(Refusal::header(4)));
+    for form in Form::ALL {
+        let (z1, z2_dagger, list) = signature(Set::IV, &mut noise);
+        let written = |number: u32| {
+            let mut record = vec![0; form.total(Set::IV)];
+            write_in(form, number, &z1, &z2_dagger, &list, &mut record).unwrap();
+            record
+        };
+        let mut zero = written(0);
+        assert_eq!(zero, written(4));
+        assert_eq!(zero[4], 4);
+        zero[4] = 0;
+        assert_eq!(verdict(form, &zero), Err(Refusal::header(4)));
+    }
 }
 
 #[test]
 fn the_header_byte_by_byte() {
-    let expected = [
+    let plain = [
         b'B', b'L', b'B', b'1', 3, 0, 0, 2, 24, 0, 0, 2, 0x18, 0x04, 30, 0, 0x18, 0x06, 0x54, 0x06,
         0, 0, 0, 0,
     ];
-    assert_eq!(header(Set::III), expected);
+    assert_eq!(Form::Plain.header(Set::III), plain);
+    let packed = [
+        b'B', b'L', b'P', b'1', 8, 0, 0, 2, 24, 0, 0, 2, 0x58, 0x03, 113, 0, 0x58, 0x04, 0xd8,
+        0x04, 0, 0, 0, 0,
+    ];
+    assert_eq!(Form::Packed.header(Set::VIII), packed);
 }
 
 #[test]
@@ -122,16 +136,17 @@ fn a_wrong_byte_is_refused_at_the_first_byte_of_its_field() {
         0, 0, 0, 0, 4, 5, 6, 6, 8, 8, 10, 10, 12, 12, 14, 14, 16, 16, 18, 18, 20, 20, 20, 20,
     ];
     let mut noise = Noise::new(44);
-    for set in Set::ALL {
-        let right = record(set, &mut noise);
+    for (form, set) in forms() {
+        let right = record(form, set, &mut noise);
         for (at, &start) in starts.iter().enumerate() {
             for bit in 3..8 {
                 let mut wrong = right.clone();
                 wrong[at] ^= 1 << bit;
-                assert_eq!(verdict(&wrong), Err(Refusal::header(start)), "byte {at}");
+                let refused = Err(Refusal::header(start));
+                assert_eq!(verdict(form, &wrong), refused, "byte {at}");
                 // The first wrong field counts.
                 wrong[23] ^= 1;
-                assert_eq!(verdict(&wrong), Err(Refusal::header(start)), "byte {at}");
+                assert_eq!(verdict(form, &wrong), refused, "byte {at}");
             }
         }
     }
@@ -140,36 +155,38 @@ fn a_wrong_byte_is_refused_at_the_first_byte_of_its_field() {
 #[test]
 fn the_slice_is_exactly_the_total() {
     let mut noise = Noise::new(45);
-    for set in Set::ALL {
-        let mut right = record(set, &mut noise);
-        for length in 0..total(set) {
+    for (form, set) in forms() {
+        let mut right = record(form, set, &mut noise);
+        for length in 0..form.total(set) {
             let place = if length < HEADER { length } else { 18 };
-            assert_eq!(verdict(&right[..length]), Err(Refusal::header(place)));
+            assert_eq!(verdict(form, &right[..length]), Err(Refusal::header(place)));
         }
         right.push(0);
-        assert_eq!(verdict(&right), Err(Refusal::header(18)));
+        assert_eq!(verdict(form, &right), Err(Refusal::header(18)));
         right[16] ^= 1;
-        assert_eq!(verdict(&right), Err(Refusal::header(16)));
+        assert_eq!(verdict(form, &right), Err(Refusal::header(16)));
     }
 }
 
 #[test]
 fn the_set_decides_count_and_limits() {
     let mut noise = Noise::new(46);
-    let mut changed = record(Set::I, &mut noise);
-    for other in [3, 5] {
-        changed[4] = other;
-        assert_eq!(verdict(&changed), Err(Refusal::header(14)));
-    }
-    // Sets 1 and 2 share every header field, and so do 5 and 6; the limits differ.
-    for (set, other) in [(Set::I, 2), (Set::V, 6)] {
-        let list: Vec<u16> = (0..set.kappa() as u16).collect();
-        let (mut z1, mut record) = (vec![0; N], vec![0; total(set)]);
-        z1[9] = 1564;
-        write(set.number(), &z1, &[0; N], &list, &mut record).unwrap();
-        assert_eq!(verdict(&record), Ok(()));
-        record[4] = other;
-        assert_eq!(verdict(&record), Err(Refusal::entry(9)));
+    for form in Form::ALL {
+        let mut changed = record(form, Set::I, &mut noise);
+        for other in [3, 5] {
+            changed[4] = other;
+            assert_eq!(verdict(form, &changed), Err(Refusal::header(14)));
+        }
+        // Sets 1 and 2 share every header field, and so do 5 and 6; the limits differ.
+        for (set, other) in [(Set::I, 2), (Set::V, 6)] {
+            let list: Vec<u16> = (0..set.kappa() as u16).collect();
+            let (mut z1, mut record) = (vec![0; N], vec![0; form.total(set)]);
+            z1[9] = 1564;
+            write_in(form, set.number(), &z1, &[0; N], &list, &mut record).unwrap();
+            assert_eq!(verdict(form, &record), Ok(()));
+            record[4] = other;
+            assert_eq!(verdict(form, &record), Err(Refusal::entry(9)));
+        }
     }
 }
 
@@ -177,7 +194,7 @@ fn the_set_decides_count_and_limits() {
 fn a_section_is_that_part_of_the_record_itself() {
     let mut noise = Noise::new(47);
     for set in Set::ALL {
-        let record = record(set, &mut noise);
+        let record = record(Form::Plain, set, &mut noise);
         let (mut number, mut place) = (99, 99);
         let parts = [
             (z1_section(&record, &mut number, &mut place), 24, 1024),
@@ -199,10 +216,10 @@ fn a_section_is_that_part_of_the_record_itself() {
 #[test]
 fn a_section_call_tests_the_header_only() {
     let mut noise = Noise::new(48);
-    let mut record = record(Set::IV, &mut noise);
+    let mut record = record(Form::Plain, Set::IV, &mut noise);
     let (mut number, mut place) = (99, 99);
     record[HEADER..].fill(0xff);
-    assert_eq!(verdict(&record), Err(Refusal::LIST));
+    assert_eq!(verdict(Form::Plain, &record), Err(Refusal::LIST));
     assert_eq!(z1_section(&record, &mut number, &mut place).len(), 1024);
     assert_eq!((number, place), (0, 0));
     record[20] = 1;
@@ -220,16 +237,15 @@ fn a_section_call_tests_the_header_only() {
 #[test]
 fn the_sum_at_and_above_b2_squared() {
     let mut noise = Noise::new(49);
-    for set in Set::ALL {
+    for (form, set) in forms() {
         let list = noise.list(set);
         for (excess, outcome) in [(0, Ok(())), (1, Err(Refusal::SUM))] {
             let (z1, z2_dagger) = signature_of_sum(set, set.b2_squared() + excess, &mut noise);
-            let mut record = vec![0xee; total(set)];
-            assert_eq!(
-                write(set.number(), &z1, &z2_dagger, &list, &mut record),
-                outcome
-            );
-            assert_eq!(outcome.is_err(), record == vec![0xee; total(set)]);
+            let filled = vec![0xee; form.total(set)];
+            let mut record = filled.clone();
+            let written = write_in(form, set.number(), &z1, &z2_dagger, &list, &mut record);
+            assert_eq!(written, outcome);
+            assert_eq!(outcome.is_err(), record == filled);
         }
     }
 }
@@ -238,8 +254,10 @@ fn the_sum_at_and_above_b2_squared() {
 #[test]
 fn a_sum_past_32_bits_is_refused() {
     let list: Vec<u16> = (0..23).collect();
-    let mut record = vec![0; 1606];
     let limit = largest_z2_dagger(Set::I) as i8;
-    let outcome = write(1, &[2100; N], &[limit; N], &list, &mut record);
-    assert_eq!(outcome, Err(Refusal::SUM));
+    for form in Form::ALL {
+        let mut record = vec![0; form.total(Set::I)];
+        let outcome = write_in(form, 1, &[2100; N], &[limit; N], &list, &mut record);
+        assert_eq!(outcome, Err(Refusal::SUM));
+    }
 }

@@ -5,12 +5,12 @@ use second::commitment::{doubled_zeta_times, sums};
 use second::draw::draw;
 use second::key::{s1, s2};
 use second::parameters::{KeyCounts, LIST_BUFFER, N};
-use second::record::{total, LONGEST};
+use second::record::write_in;
 use second::response::{dropped_digits, shifted, sign_choices, trials};
 use second::ring::{centred, modulo_2q, rest, squared_length, upper_digits, Whole};
 use second::testing::keys;
 use second::{
-    commitment, commitment_with_rests, key_test, rebuild, respond, write, Refusal, Response, Set,
+    commitment, commitment_with_rests, key_test, rebuild, respond, Form, Refusal, Response, Set,
 };
 
 #[test]
@@ -18,9 +18,19 @@ fn the_table_of_parameters() {
     assert_eq!(Set::ALL.map(Set::number), [1, 2, 3, 4, 5, 6, 7, 8]);
     assert_eq!(Set::ALL.map(Set::kappa), [23, 23, 30, 39, 58, 58, 82, 113]);
     assert_eq!(LIST_BUFFER, 113);
-    let totals = [1606, 1606, 1620, 1638, 1676, 1676, 1724, 1786];
-    assert_eq!(Set::ALL.map(total), totals);
-    assert_eq!(LONGEST, 1786);
+    for (form, totals) in [
+        (
+            Form::Plain,
+            [1606, 1606, 1620, 1638, 1676, 1676, 1724, 1786],
+        ),
+        (
+            Form::Packed,
+            [1138, 1138, 1146, 1156, 1178, 1178, 1205, 1240],
+        ),
+    ] {
+        assert_eq!(Set::ALL.map(|set| form.total(set)), totals);
+        assert_eq!(form.longest(), totals[7]);
+    }
     let rows = Set::ALL.map(|set| {
         let KeyCounts { ones, twos } = set.key_counts();
         (
@@ -232,10 +242,12 @@ fn entries_at_and_beyond_largest() {
         z1[5] = z1_entry;
         z2_dagger[7] = z2_entry;
         let list: Vec<u16> = (0..set.kappa() as u16).collect();
-        let (mut rebuilt, mut record) = (vec![0; N], vec![0; LONGEST]);
+        let (mut rebuilt, mut record) = (vec![0; N], vec![0; Form::Plain.longest()]);
         let rebuilding = rebuild(set.number(), &[0; N], &z1, &z2_dagger, &list, &mut rebuilt);
-        let writing = write(set.number(), &z1, &z2_dagger, &list, &mut record);
-        assert_eq!(rebuilding, writing);
+        for form in Form::ALL {
+            let writing = write_in(form, set.number(), &z1, &z2_dagger, &list, &mut record);
+            assert_eq!(rebuilding, writing);
+        }
         rebuilding
     };
     for sign in [1, -1] {

@@ -1,15 +1,16 @@
 //! "Numbers that come back": each call's order, with all later faults present at once, and
 //! output buffers that keep their contents.
 
+use second::form::{turn_bit, Section};
 use second::key::{require_key_length, require_relation};
 use second::parameters::N;
-use second::record::total;
+use second::record::{write_in, Held};
 use second::testing::calls::{run, Answered, Call, Input, OutputLengths, Outputs};
 use second::testing::edges::{past_k, Edge};
 use second::testing::keys::{self, Key};
 use second::testing::noise::Noise;
 use second::testing::sheet::sign;
-use second::{commitment, compare, write, Refusal, Set};
+use second::{commitment, compare, Form, Refusal, Set};
 
 /// Refusals of a call, each with what brings it about.
 type Faults<'a> = &'a [(Refusal, &'a dyn Fn(&mut Input))];
@@ -72,15 +73,18 @@ fn require_each(call: Call, right: &Input, faults: Faults) {
     }
 }
 
-/// An input on which every call is done: a signed sheet and its record.
+/// An input on which every call is done: a signed sheet and its records.
 fn right_input(set: Set, seed: u64) -> Input {
     let mut noise = Noise::new(seed);
     let key = keys::published(set, &mut noise);
     let signed = sign(set, &key, b"sheet", &mut noise);
     let (last_try, signature) = (signed.last_try, signed.signature);
-    let mut record = vec![0; total(set)];
     let (z1, z2_dagger, list) = (signature.z1, signature.z2_dagger, signature.list);
-    write(set.number(), &z1, &z2_dagger, &list, &mut record).unwrap();
+    let [record, packed] = Form::ALL.map(|form| {
+        let mut record = vec![0; form.total(set)];
+        write_in(form, set.number(), &z1, &z2_dagger, &list, &mut record).unwrap();
+        record
+    });
     Input {
         set: set.number(),
         f: key.f,
@@ -96,6 +100,7 @@ fn right_input(set: Set, seed: u64) -> Input {
         z1,
         z2_dagger,
         record,
+        packed,
         lengths: OutputLengths::stated(set),
     }
 }
@@ -408,43 +413,90 @@ fn the_form_of_a_list() {
 #[test]
 fn writer_order() {
     for set in Set::ALL {
-        let order: Faults = &[
-            (Refusal::SET, &|input| input.set = Set::ABOVE),
-            (Refusal::LENGTH, &|input| input.z2_dagger.truncate(511)),
-            (Refusal::LIST, &|input| input.list[0] = 512),
-            (Refusal::entry(0), &|input| input.z1[0] = -2101),
-            (Refusal::entry(512), &|input| input.z2_dagger[0] = 7),
-            (Refusal::SUM, &|input| input.z1.fill(-1500)),
-            (Refusal::ROOM, &|input| input.lengths.record -= 1),
-        ];
-        require_order(Call::Write, &right_input(set, 61), order);
+        for (call, form) in [
+            (Call::Write, Form::Plain),
+            (Call::WritePacked, Form::Packed),
+        ] {
+            let short = form.total(set) - 1;
+            let order: Faults = &[
+                (Refusal::SET, &|input| input.set = Set::ABOVE),
+                (Refusal::LENGTH, &|input| input.z2_dagger.truncate(511)),
+                (Refusal::LIST, &|input| input.list[0] = 512),
+                (Refusal::entry(0), &|input| input.z1[0] = -2101),
+                (Refusal::entry(512), &|input| input.z2_dagger[0] = 7),
+                (Refusal::SUM, &|input| input.z1.fill(-1500)),
+                (Refusal::ROOM, &|input| input.lengths.record = short),
+            ];
+            require_order(call, &right_input(set, 61), order);
+        }
     }
 }
 
+/// Changes what the record of this form holds. Its header is made anew.
+fn change(input: &mut Input, form: Form, change: impl Fn(&mut Held)) {
+    let set = Set::stated(input.set).expect("the record's set");
+    let record = input.record_in(form);
+    let mut held = Held::of(form, set, record);
+    change(&mut held);
+    *record = held.record(form);
+}
+
 #[test]
-fn reader_order() {
-    fn put(input: &mut Input, at: usize, value: u16) {
-        input.record[at..at + 2].copy_from_slice(&value.to_le_bytes());
-    }
+fn order_of_readers_and_conversions() {
     for set in Set::ALL {
-        let order: Faults = &[
-            (Refusal::LENGTH, &|input| input.lengths.list -= 1),
-            (Refusal::header(3), &|input| input.record.truncate(3)),
-            (Refusal::header(0), &|input| input.record[3] = b'2'),
-            (Refusal::header(4), &|input| {
-                input.record[4] = Set::ABOVE as u8
-            }),
-            (Refusal::header(20), &|input| input.record[23] = 1),
-            (Refusal::LIST, &|input| put(input, 1560, 512)),
-            (Refusal::entry(511), &|input| put(input, 24 + 1022, 2101)),
-            (Refusal::entry(1023), &|input| input.record[1559] = 0x80),
-            (Refusal::SUM, &|input| {
-                for i in 0..N {
-                    put(input, 24 + 2 * i, 1500);
-                }
-            }),
-        ];
-        require_order(Call::Read, &right_input(set, 62), order);
+        for call in [Call::Read, Call::ReadPacked, Call::Pack, Call::Unpack] {
+            let form = call.takes().expect("it is lent a record");
+            let last = form.total(set) - 1;
+            // Nine bits hold no place past 511.
+            let past = |held: &Held| match form {
+                Form::Plain => 512,
+                Form::Packed => held.list[1],
+            };
+            let least = -1 << (form.bits(Section::Z2Dagger) - 1);
+            let short = form.other().total(set) - 1;
+            let lengths: Faults = &[(Refusal::LENGTH, &|input| input.lengths.list -= 1)];
+            let header: Faults = &[
+                (Refusal::header(3), &|input| {
+                    input.record_in(form).truncate(3)
+                }),
+                (Refusal::header(0), &|input| input.record_in(form)[3] = b'2'),
+                (Refusal::header(4), &|input| {
+                    input.record_in(form)[4] = Set::ABOVE as u8
+                }),
+                (Refusal::header(18), &|input| input.record_in(form).push(0)),
+                (Refusal::header(20), &|input| input.record_in(form)[23] = 1),
+            ];
+            let spare: Faults = &[(Refusal::header(last), &|input| {
+                turn_bit(input.record_in(form), 8 * last + 7)
+            })];
+            let held: Faults = &[
+                (Refusal::LIST, &|input| {
+                    change(input, form, |held| held.list[0] = past(held))
+                }),
+                (Refusal::entry(511), &|input| {
+                    change(input, form, |held| held.z1[511] = 2101)
+                }),
+                (Refusal::entry(1023), &|input| {
+                    change(input, form, |held| held.z2_dagger[511] = least)
+                }),
+                (Refusal::SUM, &|input| {
+                    change(input, form, |held| held.z1.fill(1500))
+                }),
+            ];
+            let room: Faults = &[(Refusal::ROOM, &|input| input.lengths.record = short)];
+            let order = [
+                if call.writes().is_none() {
+                    lengths
+                } else {
+                    &[]
+                },
+                header,
+                if form == Form::Packed { spare } else { &[] },
+                held,
+                if call.writes().is_some() { room } else { &[] },
+            ];
+            require_order(call, &right_input(set, 62), &order.concat());
+        }
     }
 }
 
@@ -456,7 +508,9 @@ fn the_readers_list_buffer_is_of_its_length() {
         for length in [0, set.kappa(), 39, 112, 113, 114] {
             input.lengths.list = length;
             let wanted = if length == 113 { (0, 0) } else { (2, 0) };
-            assert_eq!(refusal(Call::Read, &input), wanted, "{set:?}, {length}");
+            for call in [Call::Read, Call::ReadPacked] {
+                assert_eq!(refusal(call, &input), wanted, "{set:?}, {length}");
+            }
         }
     }
 }

@@ -1,11 +1,11 @@
-//! A file of test vectors: inputs of all thirteen calls, and what the second program leaves behind.
+//! A file of test vectors: inputs of all seventeen calls, and what the second program leaves behind.
 //!
 //! # The file
 //!
 //! All numbers have the low byte first; signed ones are two's complement.
 //!
 //! ```text
-//! bytes 0-7    the letters BLVECT03
+//! bytes 0-7    the letters BLVECT04
 //! bytes 8-11   the number of entries
 //! bytes 12-15  the number of entries that are calls
 //! then the entries, one after the other, to the end of the file
@@ -50,22 +50,23 @@
 //! sign, thresholds, words), 4 rebuild (a, z1, z2 dagger, list), 5 comparison (list, hashed list),
 //! 6 writer (z1, z2 dagger, list), 7 reader (record), 8, 9, 10 the z1, z2 dagger and list sections
 //! (record), 11 commitment with rests (a, y1, y2), 12 and 13 rebuild and comparison with default one
-//! (as 4 and 5). A call takes its inputs from the slots, at their lengths. Its elements are 28 bytes
-//! (width 1):
+//! (as 4 and 5), 14 packed writer (as 6), 15 packed reader (as 7), 16 packing and 17 unpacking
+//! (record). A call takes its inputs from the slots, at their lengths; the record may be of either
+//! form. Its elements are 28 bytes (width 1):
 //!
 //! ```text
-//! 0-3    set asked for
+//! 0-3    set asked for (0 with 16 and 17, which take none)
 //! 4      wanted number
-//! 5      wanted set (reader, else 0)
+//! 5      wanted set (readers, else 0)
 //! 6-7    wanted place
 //! 8-9    wanted count of words (response, else 0)
 //! 10-11  wanted start of the part (sections, else 0)
 //! 12-13  wanted length of the part (sections, else 0)
 //! 14-15  length of the rounded output that is lent (commitments and rebuilds)
-//! 16-17  length of the z1 output (response, reader)
-//! 18-19  length of the z2 dagger output (response, reader)
-//! 20-21  length of the list output (reader)
-//! 22-23  length of the record output (writer)
+//! 16-17  length of the z1 output (response, readers)
+//! 18-19  length of the z2 dagger output (response, readers)
+//! 20-21  length of the list output (readers)
+//! 22-23  length of the record output (writers, packing, unpacking)
 //! 24-25  length of the rests output (commitment with rests)
 //! 26     sign bit
 //! 27     fill
@@ -81,7 +82,7 @@ pub mod replay;
 pub mod slots;
 
 /// The letters that a file of vectors starts with.
-pub const LETTERS: &[u8; 8] = b"BLVECT03";
+pub const LETTERS: &[u8; 8] = b"BLVECT04";
 
 pub use cases::vectors;
 pub use replay::{replay, Fault};

@@ -7,7 +7,7 @@ use second::testing::calls::{Answered, Call, OutputLengths};
 use std::collections::BTreeMap;
 use std::fmt;
 
-/// How often each call (1 to 13) gave each number.
+/// How often each call (1 to 17) gave each number.
 pub type Counts = BTreeMap<(u8, u32), u32>;
 
 /// Why a replay ends early.

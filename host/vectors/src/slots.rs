@@ -191,8 +191,12 @@ impl Slots {
             Call::Commitment | Call::Rebuild | Call::RebuildDefaultOne => vec![rounded],
             Call::CommitmentWithRests => vec![rounded, (WANTED_RESTS, bytes_of(&rests))],
             Call::Respond => vec![z1, z2_dagger],
-            Call::Write => vec![(WANTED_RECORD, record)],
-            Call::Read => vec![z1, z2_dagger, (WANTED_LIST, bytes_of(&list))],
+            Call::Write | Call::WritePacked | Call::Pack | Call::Unpack => {
+                vec![(WANTED_RECORD, record)]
+            }
+            Call::Read | Call::ReadPacked => {
+                vec![z1, z2_dagger, (WANTED_LIST, bytes_of(&list))]
+            }
             _ => vec![],
         };
         (answered, outputs)
@@ -214,6 +218,8 @@ impl Slots {
             z1: self.get(Z1).numbers(),
             z2_dagger: self.get(Z2_DAGGER).numbers(),
             record: self.get(RECORD).numbers(),
+            // One slot for both forms.
+            packed: self.get(RECORD).numbers(),
             lengths: asked.lengths,
         }
     }

@@ -1,15 +1,18 @@
 //! The file is small, says the same at each making, replays, and notices damage.
 
+use second::form::turn_bit;
+use second::record::Held;
 use second::testing::calls::Call;
-use second::Set;
+use second::{Form, Set};
 use std::collections::BTreeSet;
 use std::process::Command;
+use vectors::slots::{Slots, RECORD};
 use vectors::{replay, vectors, Fault};
 
 #[test]
 fn the_file_replays_and_reaches_every_number_that_can_occur() {
     let file = vectors(1);
-    assert!(file.len() < 1024 * 1024, "{} bytes", file.len());
+    assert!(file.len() < 1280 * 1024, "{} bytes", file.len());
     assert_eq!(file, vectors(1));
     let counts = replay(&file).unwrap();
     for call in Call::ALL.into_iter().filter(|call| call.has_number()) {
@@ -39,19 +42,119 @@ fn find(file: &[u8], start: [u8; 2]) -> usize {
     found.next().expect("there is such an entry").0
 }
 
+/// A call of the file.
+struct Called {
+    call: Call,
+    /// The set asked for.
+    asked: u8,
+    /// Wanted number and place.
+    wanted: (u8, u16),
+    /// The length of the record output.
+    room: usize,
+    /// The record that is lent.
+    record: Vec<u8>,
+}
+
+impl Called {
+    fn is(&self, call: Call, wanted: (u8, u16)) -> bool {
+        self.call == call && self.wanted == wanted
+    }
+
+    /// The set of the call, or of the record where it takes none.
+    fn set(&self) -> u8 {
+        match self.call.takes_set() {
+            true => self.asked,
+            false => self.record.get(4).copied().unwrap_or(0),
+        }
+    }
+}
+
+/// The calls of a file, in its order.
+fn calls_of(file: &[u8]) -> Vec<Called> {
+    let (mut slots, mut calls) = (Slots::default(), Vec::new());
+    for (_, entry) in entries(file) {
+        let short = |at: usize| u16::from_le_bytes([entry[at], entry[at + 1]]);
+        let (start, elements) = (usize::from(short(4)), &entry[8..]);
+        match entry[0] {
+            1 => slots.get_mut(entry[1].into()).load(start, elements),
+            2 => slots.get_mut(entry[1].into()).patch(start, elements),
+            _ => calls.push(Called {
+                call: Call::ALL[usize::from(entry[1]) - 1],
+                asked: elements[0],
+                wanted: (elements[4], short(8 + 6)),
+                room: short(8 + 22).into(),
+                record: slots.get(RECORD).content().to_vec(),
+            }),
+        }
+    }
+    calls
+}
+
 #[test]
 fn every_call_is_done_for_every_set() {
-    let file = vectors(1);
-    // The call and the set that it is asked for, where the wanted number is 0.
-    let done: BTreeSet<(u8, u8)> = entries(&file)
-        .into_iter()
-        .filter(|(_, entry)| entry[0] == 3 && entry[8 + 4] == 0)
-        .map(|(_, entry)| (entry[1], entry[8]))
-        .collect();
+    let calls = calls_of(&vectors(1));
     for call in Call::ALL.into_iter().filter(|call| call.has_number()) {
         for set in Set::ALL {
-            let wanted = (call as u8, set.number() as u8);
-            assert!(done.contains(&wanted), "{}, {set:?}", call.name());
+            let number = set.number() as u8;
+            let mut calls = calls.iter();
+            let done = calls.any(|called| called.is(call, (0, 0)) && called.set() == number);
+            assert!(done, "{}, {set:?}", call.name());
+        }
+    }
+}
+
+/// What a replay has to see of 02, C-11, beside the numbers.
+#[test]
+fn the_edges_of_the_packed_form_are_there() {
+    let calls = calls_of(&vectors(1));
+    let packed = Call::lent(Form::Packed);
+    for set in Set::ALL {
+        let shown = |call: Call, wanted: (u8, u16), with: &dyn Fn(&Called) -> bool| {
+            let of_set = |called: &&Called| called.set() == set.number() as u8;
+            let mut calls = calls.iter().filter(of_set);
+            let shown = calls.any(|called| called.is(call, wanted) && with(called));
+            assert!(shown, "{}, {set:?}, {wanted:?}", call.name());
+        };
+        let read = |called: &&Called| called.is(packed[0], (0, 0)) && called.set() == set as u8;
+        let right = &calls.iter().find(read).expect("one is read").record;
+        // Each spare bit set by itself.
+        for place in Form::Packed.spare_bits(set) {
+            let mut record = right.clone();
+            turn_bit(&mut record, place);
+            for &call in packed {
+                let refused = (13, right.len() as u16 - 1);
+                shown(call, refused, &|called| called.record == record);
+            }
+        }
+        // A record of the other form on each call that is lent one.
+        let held = Held::of(Form::Packed, set, right);
+        for form in Form::ALL {
+            let other = held.record(form.other());
+            for &call in Call::lent(form) {
+                shown(call, (13, 0), &|called| called.record == other);
+            }
+        }
+        // Outputs for a record too short by one, exact, and longer.
+        for call in Call::ALL {
+            if let Some(form) = call.writes() {
+                let total = form.total(set);
+                shown(call, (14, 0), &|called| called.room == total - 1);
+                shown(call, (0, 0), &|called| called.room == total);
+                shown(call, (0, 0), &|called| called.room == total + 7);
+            }
+        }
+        // Entries that thirteen and four bits hold and no limit allows.
+        if set.like() != set {
+            continue;
+        }
+        for (place, value) in [(0, 4095), (511, -4096), (512, 7), (1023, -8)] {
+            for &call in packed {
+                shown(call, (10, place), &|called| {
+                    let held = Held::of(Form::Packed, set, &called.record);
+                    let entries = [held.z1, held.z2_dagger].concat();
+                    entries[usize::from(place)] == value
+                });
+            }
         }
     }
 }
@@ -75,7 +178,7 @@ fn damage_is_noticed() {
     differs(find(&file, [1, 13]) + 8, "Commitment: slot 13");
     differs(find(&file, [3, 2]) + 8 + 4, "Commitment");
     differs(find(&file, [1, 18]) + 8, "CommitmentWithRests: slot 18");
-    assert!(damaged(0).to_string().contains("BLVECT03"));
+    assert!(damaged(0).to_string().contains("BLVECT04"));
     assert!(replay(&file[..file.len() - 1]).is_err());
     let longer = [&file[..], &[0]].concat();
     assert!(replay(&longer).is_err());
@@ -85,7 +188,7 @@ fn damage_is_noticed() {
 fn file_of(entries: &[Vec<u8>]) -> Vec<u8> {
     let calls = entries.iter().filter(|entry| entry[0] == 3).count();
     let counts = [entries.len() as u32, calls as u32].map(u32::to_le_bytes);
-    [b"BLVECT03", counts.as_flattened(), &entries.concat()].concat()
+    [b"BLVECT04", counts.as_flattened(), &entries.concat()].concat()
 }
 
 /// A call of set 1 with this wanted number.
@@ -114,7 +217,7 @@ fn malformed_entries_are_named() {
         "slot 1 has room for 520, not 521",
     );
     malformed(&[1, 1, 1, 0, 0, 0, 9, 0], "the file ends too soon");
-    malformed(&[3, 14, 1, 0, 0, 0, 0, 0], "no call 14");
+    malformed(&[3, 18, 1, 0, 0, 0, 0, 0], "no call 18");
     malformed(&[3, 1, 1, 0, 0, 0, 0, 0], "a call of 0 bytes");
     malformed(&[4, 1, 1, 0, 0, 0, 0, 0], "no entry of kind 4");
     let zero = "byte 3 of its head is not zero";

@@ -18,7 +18,7 @@ is-done-requires c κs = search needs
 returns : tie.Need-returns
 returns c =
     let r = c .before .before .before .before in
-    not-given _ _ _ _ _ _ _ _ _ _ (r .respond .ensures) (c .before .is-done .ensures) (c .if1 .taken)
+    not-given _ _ _ _ _ _ _ _ _ _ _ (r .respond .ensures) (c .before .is-done .ensures) (c .if1 .taken)
 
 commitment-requires : tie.Need-commitment-requires
 commitment-requires c κs = search needs
@@ -34,7 +34,7 @@ returns-2 c =
     let k = c .before .before .before .before in
     let e = k .before .before in
     let r = e .before .before .before .before in
-    not-committed _ _ _ _ _ _ _ _ _ _ (r .respond .ensures) (e .before .is-done .ensures) (e .if1 .left) _ _ _ (k .commitment .ensures) (c .before .is-done2 .ensures)
+    not-committed _ _ _ _ _ _ _ _ _ _ _ (r .respond .ensures) (e .before .is-done .ensures) (e .if1 .left) _ _ _ (k .commitment .ensures) (c .before .is-done2 .ensures)
     (c .if2 .taken)
 
 slice-aggregate-write : tie.Need-slice-aggregate-write
@@ -59,7 +59,7 @@ returns-3 c =
     let k = t .before .before .before .before in
     let e = k .before .before in
     let r = e .before .before .before .before in
-    recorded-as _ _ _ _ _ _ _ _ _ _ (r .respond .ensures) (e .before .is-done .ensures) (e .if1 .left) _ _ _ (k .commitment .ensures) (t .before .is-done2 .ensures)
+    recorded-as _ _ _ _ _ _ _ _ _ _ _ (r .respond .ensures) (e .before .is-done .ensures) (e .if1 .left) _ _ _ (k .commitment .ensures) (t .before .is-done2 .ensures)
     (t .if2 .left) _ _ (w .write .ensures)
 
 pub send-spec : {M : Type 1} → statement M

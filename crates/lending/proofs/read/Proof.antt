@@ -13,26 +13,26 @@ least-requires-2 c κs = search needs
 least-requires-3 : tie.Need-least-requires-3
 least-requires-3 c κs = search needs
 
-slice-relend-prefix-bursztok-read : tie.Need-slice-relend-prefix-bursztok-read
-slice-relend-prefix-bursztok-read c = search needs
+slice-relend-prefix-read-to : tie.Need-slice-relend-prefix-read-to
+slice-relend-prefix-read-to c = search needs
 
-slice-aggregate-bursztok-read : tie.Need-slice-aggregate-bursztok-read
-slice-aggregate-bursztok-read c = simp length-take (omega arith)
+slice-aggregate-read-to : tie.Need-slice-aggregate-read-to
+slice-aggregate-read-to c = simp length-take (omega arith)
 
-slice-relend-prefix-bursztok-read-2 : tie.Need-slice-relend-prefix-bursztok-read-2
-slice-relend-prefix-bursztok-read-2 c = search needs
+slice-relend-prefix-read-to-2 : tie.Need-slice-relend-prefix-read-to-2
+slice-relend-prefix-read-to-2 c = search needs
 
-slice-aggregate-bursztok-read-2 : tie.Need-slice-aggregate-bursztok-read-2
-slice-aggregate-bursztok-read-2 c = simp length-take (omega arith)
+slice-aggregate-read-to-2 : tie.Need-slice-aggregate-read-to-2
+slice-aggregate-read-to-2 c = simp length-take (omega arith)
 
-slice-relend-prefix-bursztok-read-3 : tie.Need-slice-relend-prefix-bursztok-read-3
-slice-relend-prefix-bursztok-read-3 c = search needs
+slice-relend-prefix-read-to-3 : tie.Need-slice-relend-prefix-read-to-3
+slice-relend-prefix-read-to-3 c = search needs
 
-slice-aggregate-bursztok-read-3 : tie.Need-slice-aggregate-bursztok-read-3
-slice-aggregate-bursztok-read-3 c = simp length-take (omega arith)
+slice-aggregate-read-to-3 : tie.Need-slice-aggregate-read-to-3
+slice-aggregate-read-to-3 c = simp length-take (omega arith)
 
-bursztok-read-requires : tie.Need-bursztok-read-requires
-bursztok-read-requires c κs = search needs
+read-to-requires : tie.Need-read-to-requires
+read-to-requires c κs = search needs
 
 same-length : tie.Need-same-length
 same-length c = search needs
@@ -53,13 +53,13 @@ read-spec =
     least-requires
     least-requires-2
     least-requires-3
-    slice-relend-prefix-bursztok-read
-    slice-aggregate-bursztok-read
-    slice-relend-prefix-bursztok-read-2
-    slice-aggregate-bursztok-read-2
-    slice-relend-prefix-bursztok-read-3
-    slice-aggregate-bursztok-read-3
-    bursztok-read-requires
+    slice-relend-prefix-read-to
+    slice-aggregate-read-to
+    slice-relend-prefix-read-to-2
+    slice-aggregate-read-to-2
+    slice-relend-prefix-read-to-3
+    slice-aggregate-read-to-3
+    read-to-requires
     same-length
     same-length-2
     same-length-3

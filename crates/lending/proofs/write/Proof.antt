@@ -7,14 +7,14 @@ use Rattle.lending.proofs.write.Tie as tie
 least-requires : tie.Need-least-requires
 least-requires c κs = search needs
 
-slice-relend-prefix-bursztok-write : tie.Need-slice-relend-prefix-bursztok-write
-slice-relend-prefix-bursztok-write c = search needs
+slice-relend-prefix-written : tie.Need-slice-relend-prefix-written
+slice-relend-prefix-written c = search needs
 
-slice-aggregate-bursztok-write : tie.Need-slice-aggregate-bursztok-write
-slice-aggregate-bursztok-write c = simp length-take (omega arith)
+slice-aggregate-written : tie.Need-slice-aggregate-written
+slice-aggregate-written c = simp length-take (omega arith)
 
-bursztok-write-requires : tie.Need-bursztok-write-requires
-bursztok-write-requires c κs = search needs
+written-requires : tie.Need-written-requires
+written-requires c κs = search needs
 
 same-length : tie.Need-same-length
 same-length c = search needs
@@ -27,8 +27,8 @@ write-spec =
     tie.close
     (tie.spec
     least-requires
-    slice-relend-prefix-bursztok-write
-    slice-aggregate-bursztok-write
-    bursztok-write-requires
+    slice-relend-prefix-written
+    slice-aggregate-written
+    written-requires
     same-length
     returns)

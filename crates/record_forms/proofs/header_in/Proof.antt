@@ -3,6 +3,7 @@ use mathlib.Core.List.{List}
 use Prim.Native.Nat.{ℕ}
 use native.Mathlib.Omega.{arith}
 use Rattle.sets.specs.declared.Set.{Set}
+use Rattle.record_forms.specs.declared.Form.{Form}
 use Rattle.record_forms.specs.declared.Header.{Header}
 use Rattle.record_forms.specs.Headers.{fieldsAfter, headerIn}
 use Rattle.record_forms.proofs.Ways.{calls}
@@ -11,8 +12,8 @@ use Rattle.record_forms.proofs.header_in.Statement.{statement}
 use Rattle.record_forms.proofs.header_in.Tie as tie
 
 -- what the fields say, at the header that is known
-fields-at : (r : Header) (s : Set) (header header′ rec : List ℕ) → r ≡ fieldsAfter s header rec → header ≡ header′ → r ≡ fieldsAfter s header′ rec
-fields-at r s header header′ rec e f = cc
+fields-at : (r : Header) (form : Form) (s : Set) (header header′ rec : List ℕ) → r ≡ fieldsAfter form s header rec → header ≡ header′ → r ≡ fieldsAfter form s header′ rec
+fields-at r form s header header′ rec e f = cc
 
 cast-t7 : tie.Need-cast-t7
 cast-t7 c = search needs
@@ -21,11 +22,8 @@ returns : tie.Need-returns
 unfolding headerIn
 returns c = search calls
 
-slice-aggregate-agrees : tie.Need-slice-aggregate-agrees
-slice-aggregate-agrees c = search needs
-
-agrees-requires : tie.Need-agrees-requires
-agrees-requires c κs = search needs
+opens-requires : tie.Need-opens-requires
+opens-requires c κs = search needs
 
 returns-2 : tie.Need-returns-2
 unfolding headerIn
@@ -69,8 +67,7 @@ header-in-spec =
     (tie.spec
     cast-t7
     returns
-    slice-aggregate-agrees
-    agrees-requires
+    opens-requires
     returns-2
     shared-slice-read-named
     cast-named

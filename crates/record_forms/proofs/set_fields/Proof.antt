@@ -39,6 +39,9 @@ returns-5 : tie.Need-returns-5
 unfolding setFields
 returns-5 c = search calls depth 9
 
+spare-bits-requires : tie.Need-spare-bits-requires
+spare-bits-requires c κs = search needs
+
 returns-6 : tie.Need-returns-6
 unfolding setFields
 returns-6 c = search calls depth 9
@@ -57,4 +60,5 @@ set-fields-spec =
     returns-4
     agrees-requires-4
     returns-5
+    spare-bits-requires
     returns-6)

@@ -9,38 +9,39 @@ use Rattle.sets.specs.declared.Set.{Set}
 use Rattle.sets.specs.Numbers.{dimension, listLimit}
 use Rattle.answers.specs.declared.Outcome.{Outcome}
 use Rattle.answers.specs.declared.Outcome.the-variants.{WrongLength, HeaderMalformed}
+use Rattle.record_forms.specs.declared.Form.{Form}
 use Rattle.record_forms.specs.declared.Header.{Header}
 use Rattle.record_forms.specs.declared.Header.the-variants.{States, Malformed}
 use Rattle.record_forms.specs.Headers.{headerIn}
 use Rattle.record_forms.proofs.Ways.{calls}
-use Rattle.records.specs.Reader.{found, readingFor, readingOf}
+use Rattle.records.specs.Reader.{found, buffers, readingFor, readingOf}
 use Rattle.records.proofs.Buffers.{stated-total, refused-at}
 use borrow.Author.Needs.{needs}
 use Rattle.records.proofs.read.Statement.{statement}
 use Rattle.records.proofs.read.Tie as tie
 
 -- the ways through a call, each by the tests on it
-module _ (rec : List ℕ) (z1 z2 : List ℤ) (list : List ℕ) where
+module _ (form : Form) (rec : List ℕ) (z1 z2 : List ℤ) (list : List ℕ) where
   module _ (o : Outcome) (set : ℕ) (w : (o ≡ WrongLength) × (set ≡ 0)) where
-    z1-wrong : (length z1 ≡ dimension → ⊥) → found o set z1 z2 list ≡ readingOf rec z1 z2 list
+    z1-wrong : (length z1 ≡ dimension → ⊥) → found o set z1 z2 list ≡ readingOf form rec (buffers z1 z2 list)
     unfolding readingOf
     z1-wrong h = search (calls, refused-at) depth 9
 
-    z2-wrong : length z1 ≡ dimension → (length z2 ≡ dimension → ⊥) → found o set z1 z2 list ≡ readingOf rec z1 z2 list
+    z2-wrong : length z1 ≡ dimension → (length z2 ≡ dimension → ⊥) → found o set z1 z2 list ≡ readingOf form rec (buffers z1 z2 list)
     unfolding readingOf
     z2-wrong e h = search (calls, refused-at) depth 9
 
-    list-wrong : length z1 ≡ dimension → length z2 ≡ dimension → (length list ≡ listLimit → ⊥) → found o set z1 z2 list ≡ readingOf rec z1 z2 list
+    list-wrong : length z1 ≡ dimension → length z2 ≡ dimension → (length list ≡ listLimit → ⊥) → found o set z1 z2 list ≡ readingOf form rec (buffers z1 z2 list)
     unfolding readingOf
     list-wrong e f h = search (calls, refused-at) depth 9
 
-  module _ (e : length z1 ≡ dimension) (f : length z2 ≡ dimension) (g : length list ≡ listLimit) (h : Header) (is : h ≡ headerIn rec) where
-    header-malformed : (o : Outcome) (set place : ℕ) → h ≡ Malformed place → (o ≡ HeaderMalformed place) × (set ≡ 0) → found o set z1 z2 list ≡ readingOf rec z1 z2 list
+  module _ (e : length z1 ≡ dimension) (f : length z2 ≡ dimension) (g : length list ≡ listLimit) (h : Header) (is : h ≡ headerIn form rec) where
+    header-malformed : (o : Outcome) (set place : ℕ) → h ≡ Malformed place → (o ≡ HeaderMalformed place) × (set ≡ 0) → found o set z1 z2 list ≡ readingOf form rec (buffers z1 z2 list)
     unfolding readingOf
     header-malformed o set place k w =
         rw (eq-eqb (length z1) dimension e, eq-eqb (length z2) dimension f, eq-eqb (length list) listLimit g, sym is ∙ k) (refused-at o (HeaderMalformed place) set z1 z2 list w)
 
-    header-states : (s : Set) (o : Outcome) (set : ℕ) (x y : List ℤ) (l : List ℕ) → h ≡ States s → found o set x y l ≡ readingFor s rec z1 z2 list → found o set x y l ≡ readingOf rec z1 z2 list
+    header-states : (s : Set) (o : Outcome) (set : ℕ) (x y : List ℤ) (l : List ℕ) → h ≡ States s → found o set x y l ≡ readingFor form s rec (buffers z1 z2 list) → found o set x y l ≡ readingOf form rec (buffers z1 z2 list)
     unfolding readingOf
     header-states s o set x y l k w = rw (eq-eqb (length z1) dimension e, eq-eqb (length z2) dimension f, eq-eqb (length list) listLimit g, sym is ∙ k) w
 

@@ -1,117 +1,84 @@
-use mathlib.Core.Path.{sym, ap, _∙_}
-use Prim.Native.Nat.{ℕ, _*_}
-use Rattle.byte_codes.specs.Bytes.{fromComplement}
-use Rattle.records.proofs.Buffers.{after-list, rec-long, kappa-room, front-long, places-long, places-read, entries-read}
+use mathlib.Core.Path.{_≡_, _∙_, ap}
+use mathlib.Core.List.{List, _++_}
+use Prim.Native.Nat.{ℕ}
+use lib.IntN.{ℤ}
+use lib.ListN.{length, drop}
+use Rattle.sets.specs.declared.Set.{Set}
+use Rattle.sets.specs.Numbers.{kappaOf}
+use Rattle.record_forms.specs.declared.Form.{Form}
+use Rattle.record_forms.specs.Forms.{totalOf}
+use Rattle.records.specs.Signatures.{signatureIn}
 use borrow.Author.Needs.{needs}
 use Rattle.records.proofs.unpack.Statement.{statement}
 use Rattle.records.proofs.unpack.Tie as tie
 
-kappa-requires : tie.Need-kappa-requires
-kappa-requires c κs = search needs
+-- the form that was told
+module _ (form told : Form) (s : Set) (rec : List ℕ) (e : form ≡ told) where
+  told-long : length rec ≡ totalOf form s → length rec ≡ totalOf told s
+  told-long h = h ∙ ap (λ (f : Form). totalOf f s) e
 
-total-requires : tie.Need-total-requires
-total-requires c κs = search needs
+  told-read : (z1 z2 : List ℤ) (list old : List ℕ)
+      → (z1 ≡ signatureIn told s rec .z1) × (z2 ≡ signatureIn told s rec .z2) × (list ≡ signatureIn told s rec .list ++ drop (kappaOf s) old)
+      → (z1 ≡ signatureIn form s rec .z1) × (z2 ≡ signatureIn form s rec .z2) × (list ≡ signatureIn form s rec .list ++ drop (kappaOf s) old)
+  told-read z1 z2 list old h = rw e h
 
-sub-unpack-wide : tie.Need-sub-unpack-wide
-sub-unpack-wide c = search needs
+enum-told : tie.Need-enum-told
+enum-told c = search needs
 
-part-unpack-wide-start : tie.Need-part-unpack-wide-start
-part-unpack-wide-start c = search needs
+unpack-plain-requires : tie.Need-unpack-plain-requires
+unpack-plain-requires c κs = (search told-long, search, search, search)
 
-part-unpack-wide-end : tie.Need-part-unpack-wide-end
-part-unpack-wide-end c = search needs
+enum-told-2 : tie.Need-enum-told-2
+enum-told-2 c = search needs
 
-unpack-wide-requires : tie.Need-unpack-wide-requires
-unpack-wide-requires c κs = c .before .unpack-wide-arg .given .2 ∙ sym (ap (λ (n : ℕ). 2 * n) (c .before .before .before .before .before .before .pre .1))
-
-sub-unpack-narrow : tie.Need-sub-unpack-narrow
-sub-unpack-narrow c = search needs
-
-part-unpack-narrow-start : tie.Need-part-unpack-narrow-start
-part-unpack-narrow-start c = search needs
-
-part-unpack-narrow-end : tie.Need-part-unpack-narrow-end
-part-unpack-narrow-end c = search needs
-
-unpack-narrow-requires : tie.Need-unpack-narrow-requires
-unpack-narrow-requires c κs = c .before .unpack-narrow-arg .given .2 ∙ sym (ap (λ (n : ℕ). 1 * n) (c .before .before .before .before .before .before .before .before .before .before .pre .2))
-
-sub-unpack-places : tie.Need-sub-unpack-places
-sub-unpack-places c =
-    let t = c .before .before .before .before .before .before .before .before in
-    after-list _ (t .before .before .before .before .args .s) (t .total .ensures)
-
-part-unpack-places-start : tie.Need-part-unpack-places-start
-part-unpack-places-start c =
-    let t = c .before .before .before .before .before .before .before .before in
-    after-list _ (t .before .before .before .before .args .s) (t .total .ensures)
-
-part-unpack-places-end : tie.Need-part-unpack-places-end
-part-unpack-places-end c =
-    let t = c .before .before .before .before .before .before .before .before in
-    let s = t .before .before .before .before in
-    rec-long _ _ (s .args .s) (s .pre .0) (t .total .ensures)
-
-slice-relend-prefix-unpack-places : tie.Need-slice-relend-prefix-unpack-places
-slice-relend-prefix-unpack-places c =
-    let k = c .before .before .before .before .before .before .before .before .before .before in
-    let s = k .before .before .before in
-    kappa-room _ _ (s .args .s) (k .kappa .ensures) (s .pre .3)
-
-slice-aggregate-unpack-places : tie.Need-slice-aggregate-unpack-places
-slice-aggregate-unpack-places c =
-    let t = c .before .before .before .before .before .before .before .before .before .before in
-    let s = t .before .before .before .before in
-    front-long (s .args .rec .now) (s .args .list .now) _ _ (s .args .s) (t .before .kappa .ensures) (t .total .ensures) (s .pre .3)
-
-unpack-places-requires : tie.Need-unpack-places-requires
-unpack-places-requires c κs =
-    let t = c .before .before .before .before .before .before .before .before .before .before in
-    let s = t .before .before .before .before in
-    places-long (s .args .rec .now) (s .args .list .now) _ _ (s .args .s) (t .before .kappa .ensures) (t .total .ensures) (s .pre .3) (s .pre .0)
+unpack-packed-requires : tie.Need-unpack-packed-requires
+unpack-packed-requires c κs = (search told-long, search, search, search)
 
 same-length : tie.Need-same-length
-same-length c = c .before .before .before .before .before .before .before .before .before .z1 .given
+same-length c = search needs
 
 same-length-2 : tie.Need-same-length-2
-same-length-2 c = c .before .before .before .before .before .z2 .given
+same-length-2 c = search needs
 
 same-length-3 : tie.Need-same-length-3
-same-length-3 c = c .before .list .given .1
+same-length-3 c = search needs
 
 returns : tie.Need-returns
 returns c =
-    let p = c .before .before in
-    let n = p .before .before .before .before in
-    let w = n .before .before .before .before in
-    let t = w .before .before .before in
-    let s = t .before .before .before .before in (
-      entries-read (fromComplement 16) 2 _ _ _ _ (w .unpack-wide .ensures) (s .pre .1),
-      entries-read (fromComplement 8) 1 _ _ _ _ (n .unpack-narrow .ensures) (s .pre .2),
-      places-read (s .args .rec .now) (s .args .list .now) _ _ (s .args .s) (t .before .kappa .ensures) (t .total .ensures) (s .pre .3) _ (p .unpack-places .ensures),
-    )
+    let q = c .before .before .before .before in
+    let t = q .before .before .before .before in
+    let s = t .before .before .before .before in
+    told-read (s .args .form) _ (s .args .s) (s .args .rec .now) (t .enum-told .given .1) _ _ _ (s .args .list .now) (q .unpack-plain .ensures)
+
+same-length-4 : tie.Need-same-length-4
+same-length-4 c = search needs
+
+same-length-5 : tie.Need-same-length-5
+same-length-5 c = search needs
+
+same-length-6 : tie.Need-same-length-6
+same-length-6 c = search needs
+
+returns-2 : tie.Need-returns-2
+returns-2 c =
+    let q = c .before .before .before .before in
+    let t = q .before .before .before .before in
+    let s = t .before .before .before .before in
+    told-read (s .args .form) _ (s .args .s) (s .args .rec .now) (t .enum-told2 .given .1) _ _ _ (s .args .list .now) (q .unpack-packed .ensures)
 
 pub unpack-spec : {M : Type 1} → statement M
 unpack-spec =
     tie.close
     (tie.spec
-    kappa-requires
-    total-requires
-    sub-unpack-wide
-    part-unpack-wide-start
-    part-unpack-wide-end
-    unpack-wide-requires
-    sub-unpack-narrow
-    part-unpack-narrow-start
-    part-unpack-narrow-end
-    unpack-narrow-requires
-    sub-unpack-places
-    part-unpack-places-start
-    part-unpack-places-end
-    slice-relend-prefix-unpack-places
-    slice-aggregate-unpack-places
-    unpack-places-requires
+    enum-told
+    unpack-plain-requires
+    enum-told-2
+    unpack-packed-requires
     same-length
     same-length-2
     same-length-3
-    returns)
+    returns
+    same-length-4
+    same-length-5
+    same-length-6
+    returns-2)

@@ -1,47 +1,36 @@
 use mathlib.Core.Path.{_≡_}
-use mathlib.Core.Bool.{Bool, true, false, not}
-use mathlib.Core.List.{List, _++_}
-use Prim.Native.Nat.{ℕ, _≤_, _<_}
+use mathlib.Core.List.{List}
+use Prim.Native.Nat.{ℕ}
 use lib.IntN.{ℤ}
-use lib.ListN.{length, drop}
+use lib.ListN.{length}
 use Rattle.sets.specs.declared.Set.{Set}
-use Rattle.sets.specs.Numbers.{dimension, totalOf}
+use Rattle.sets.specs.Numbers.{dimension}
 use Rattle.answers.specs.declared.Outcome.{Outcome}
-use Rattle.answers.specs.declared.Outcome.the-variants.{Done, WrongLength, OutputShort}
-use Rattle.answers.specs.Outcomes.{isDone, filled}
-use Rattle.answers.proofs.Calls.{admitted}
-use Rattle.record_forms.proofs.Ways.{calls, right-length, long-enough}
-use Rattle.records.specs.Signatures.{signature, recordOf, refusalOf}
-use Rattle.records.specs.Writer.{writingFor}
-use Rattle.records.proofs.Buffers.{proper-length, room, written-at}
+use Rattle.answers.specs.declared.Outcome.the-variants.{WrongLength}
+use Rattle.answers.specs.Outcomes.{filled}
+use Rattle.record_forms.specs.declared.Form.{Form}
+use Rattle.record_forms.proofs.Ways.{calls, right-length}
+use Rattle.records.specs.Signatures.{signature}
+use Rattle.records.specs.Writer.{recordedTo, writingFor}
+use Rattle.records.proofs.Buffers.{not-refused, refused-record, put-record}
 use borrow.Author.Needs.{needs}
 use Rattle.records.proofs.write_for.Statement.{statement}
 use Rattle.records.proofs.write_for.Tie as tie
 
 -- the ways through a call, each by the tests on it
-module _ (s : Set) (z1 z2 : List ℤ) (list out : List ℕ) where
-  z1-wrong : (length z1 ≡ dimension → ⊥) → filled WrongLength out ≡ writingFor (signature s z1 z2 list) out
+module _ (form : Form) (s : Set) (z1 z2 : List ℤ) (list out : List ℕ) where
+  z1-wrong : (length z1 ≡ dimension → ⊥) → filled WrongLength out ≡ writingFor form (signature s z1 z2 list) out
   unfolding writingFor
   z1-wrong h = search calls depth 9
 
   module _ (e : length z1 ≡ dimension) where
-    z2-wrong : (length z2 ≡ dimension → ⊥) → filled WrongLength out ≡ writingFor (signature s z1 z2 list) out
+    z2-wrong : (length z2 ≡ dimension → ⊥) → filled WrongLength out ≡ writingFor form (signature s z1 z2 list) out
     unfolding writingFor
     z2-wrong h = search calls depth 9
 
-    module _ (f : length z2 ≡ dimension) (r : Bool) (o : Outcome) (g : o ≡ refusalOf (signature s z1 z2 list)) (h : r ≡ isDone o) where
-      refused : not r ≡ true → filled o out ≡ writingFor (signature s z1 z2 list) out
-      unfolding writingFor
-      refused t = search calls depth 9
-
-      module _ (t : not r ≡ false) (total : ℕ) (k : total ≡ totalOf s) where
-        short : length out < total → filled OutputShort out ≡ writingFor (signature s z1 z2 list) out
-        unfolding writingFor
-        short l = search calls depth 9
-
-        written : total ≤ length out → (now : List ℕ) → now ≡ recordOf (signature s z1 z2 list) ++ drop (totalOf s) out → filled Done now ≡ writingFor (signature s z1 z2 list) out
-        unfolding writingFor
-        written l now w = search (right-length, admitted, long-enough, written-at) depth 9
+    lengths-right : length z2 ≡ dimension → (o : Outcome) (now : List ℕ) → filled o now ≡ recordedTo form (signature s z1 z2 list) out → filled o now ≡ writingFor form (signature s z1 z2 list) out
+    unfolding writingFor
+    lengths-right f o now w = search right-length depth 9
 
 returns : tie.Need-returns
 returns c = search z1-wrong
@@ -56,34 +45,16 @@ is-done-requires : tie.Need-is-done-requires
 is-done-requires c κs = search needs
 
 returns-3 : tie.Need-returns-3
-returns-3 c = search refused
+returns-3 c = search (lengths-right, refused-record) depth 9
 
-total-requires : tie.Need-total-requires
-total-requires c κs = search needs
-
-returns-4 : tie.Need-returns-4
-returns-4 c = search short
-
-pack-requires : tie.Need-pack-requires
-pack-requires c κs = (search, search, search proper-length, search room)
+put-requires : tie.Need-put-requires
+put-requires c κs = (search, search, search not-refused)
 
 same-length : tie.Need-same-length
-same-length c = c .before .out .given
+same-length c = search needs
 
-returns-5 : tie.Need-returns-5
-returns-5 c = search written
+returns-4 : tie.Need-returns-4
+returns-4 c = search (lengths-right, put-record) depth 9
 
 pub write-for-spec : {M : Type 1} → statement M
-write-for-spec =
-    tie.close
-    (tie.spec
-    returns
-    returns-2
-    refusal-of-requires
-    is-done-requires
-    returns-3
-    total-requires
-    returns-4
-    pack-requires
-    same-length
-    returns-5)
+write-for-spec = tie.close (tie.spec returns returns-2 refusal-of-requires is-done-requires returns-3 put-requires same-length returns-4)

@@ -1,10 +1,11 @@
 //! Sets and lengths: refusals 1 and 2.
 
 use super::{
-    fault, Fault, WITH_KEY, WITH_MASKS, WITH_PUBLIC, WITH_ROUNDED, WITH_SET, WITH_SIGNATURE,
+    fault, Fault, READING, WITH_KEY, WITH_MASKS, WITH_PUBLIC, WITH_ROUNDED, WITH_SET,
+    WITH_SIGNATURE,
 };
 use second::parameters::{LIST_BUFFER, N};
-use second::testing::calls::Call::{CommitmentWithRests, Read, Respond};
+use second::testing::calls::Call::{CommitmentWithRests, Read, ReadPacked, Respond};
 use second::testing::calls::Input;
 use second::testing::noise::Noise;
 use second::{Edition, Set};
@@ -48,18 +49,18 @@ pub const FAULTS: &[Fault] = &[
     ),
     fault(
         "length of the z1 output",
-        &[Respond, Read],
+        &[Respond, Read, ReadPacked],
         |input, noise| input.lengths.z1 = other_length(N, noise),
     ),
     fault(
         "length of the z2 dagger output",
-        &[Respond, Read],
+        &[Respond, Read, ReadPacked],
         |input, noise| input.lengths.z2_dagger = other_length(N, noise),
     ),
-    fault("length of the list output", &[Read], |input, noise| {
+    fault("length of the list output", READING, |input, noise| {
         input.lengths.list = other_length(LIST_BUFFER, noise)
     }),
-    fault("list output of an older reader", &[Read], |input, _| {
+    fault("list output of an older reader", READING, |input, _| {
         input.lengths.list = Edition::OLDER.list_buffer()
     }),
 ];

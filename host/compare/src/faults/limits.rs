@@ -42,6 +42,16 @@ pub const FAULTS: &[Fault] = &[
         WITH_SIGNATURE,
         every_entry_at_largest,
     ),
+    fault(
+        "z1 at the ends of 13 bits and past them",
+        WITH_SIGNATURE,
+        |input, noise| stretch(&mut input.z1, &[4095, -4096, -1], 1 << 13, noise),
+    ),
+    fault(
+        "z2 dagger at the ends of 4 bits and past them",
+        WITH_SIGNATURE,
+        |input, noise| stretch(&mut input.z2_dagger, &[7, -8, -1], 1 << 4, noise),
+    ),
 ];
 
 /// What the response adds to the masks: v with the sign bit's turn, where key and list admit it.
@@ -109,6 +119,20 @@ fn z1_at_largest(input: &mut Input, noise: &mut Noise) {
 fn z2_at_largest(input: &mut Input, noise: &mut Noise) {
     let entry = at_limit(largest_z2_dagger(set_of(input)), noise) as i8;
     put(&mut input.z2_dagger, &[entry, entry, i8::MIN], noise);
+}
+
+/// One of the values, or an entry that the packed form's bits would cut to what it was.
+fn stretch<T: Copy + std::ops::Add<Output = T>>(
+    vector: &mut [T],
+    values: &[T],
+    cut: T,
+    noise: &mut Noise,
+) {
+    if vector.is_empty() || noise.bit() {
+        return put(vector, values, noise);
+    }
+    let place = place_in(vector.len(), noise);
+    vector[place] = vector[place] + cut;
 }
 
 fn sum_at_limit(input: &mut Input, noise: &mut Noise) {

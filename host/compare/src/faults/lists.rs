@@ -40,10 +40,12 @@ pub fn deform(list: &mut [u16], noise: &mut Noise) {
         return;
     }
     let place = 1 + place_in(list.len() - 1, noise);
-    match noise.below(4) {
+    match noise.below(5) {
         0 => list[place] = list[place - 1],
         1 => list.swap(place, place - 1),
         2 => list[place] = noise.one_of(&[512, 513, 1024, 32_768, 65_535]),
+        // Nine bits would hold the right place.
+        3 => list[place] |= 512,
         _ => list[list.len() - 1] = noise.one_of(&[511, 512]),
     }
 }

@@ -1,35 +1,56 @@
 //! Records: refusals 13 and 14, and damaged sections.
 
 use super::lists::deform;
-use super::{fault, Fault, WITH_RECORD};
+use super::{fault, place_in, record_fault, set_of};
+use super::{Fault, WITH_PACKED, WITH_RECORD, WITH_RECORD_OUTPUT};
+use second::form::{bit, turn_bit, Section, HEADER};
 use second::parameters::N;
-use second::record::LONGEST;
-use second::testing::calls::Call::Write;
 use second::testing::calls::Input;
 use second::testing::noise::Noise;
-use second::Set;
+use second::{Form, Set};
 
+/// A record of another kind comes first: what is spoilt after it stays spoilt.
 pub const FAULTS: &[Fault] = &[
-    fault("short output for the record", &[Write], short_record_output),
-    fault("long output for the record", &[Write], |input, noise| {
-        input.lengths.record += noise.below(40)
+    fault(
+        "short output for the record",
+        WITH_RECORD_OUTPUT,
+        short_record_output,
+    ),
+    fault(
+        "long output for the record",
+        WITH_RECORD_OUTPUT,
+        |input, noise| input.lengths.record += noise.below(40),
+    ),
+    record_fault("record of noise", WITH_RECORD, record_of_noise),
+    record_fault("record of the other form", WITH_RECORD, |_, input, _| {
+        std::mem::swap(&mut input.record, &mut input.packed)
     }),
-    fault("header byte", WITH_RECORD, header_byte),
-    fault("set byte", WITH_RECORD, set_byte),
-    fault("record of another length", WITH_RECORD, record_length),
-    fault("record's list", WITH_RECORD, record_list),
-    fault("record's z1", WITH_RECORD, record_z1_entry),
-    fault("record's z2 dagger", WITH_RECORD, record_z2_entry),
-    fault("record's sum", WITH_RECORD, record_sum),
-    fault("any byte of the record", WITH_RECORD, any_record_byte),
-    fault("record of noise", WITH_RECORD, record_of_noise),
-    fault("sections of noise", WITH_RECORD, sections_of_noise),
+    record_fault("letters of the other form", WITH_RECORD, other_letters),
+    record_fault("header of the other form", WITH_RECORD, other_header),
+    record_fault("header byte", WITH_RECORD, header_byte),
+    record_fault("set byte", WITH_RECORD, set_byte),
+    record_fault("spare bit", WITH_PACKED, spare_bit),
+    record_fault("record's list", WITH_RECORD, record_list),
+    record_fault("record's z1", WITH_RECORD, record_z1_entry),
+    record_fault("record's z2 dagger", WITH_RECORD, record_z2_entry),
+    record_fault("record's sum", WITH_RECORD, record_sum),
+    record_fault("any byte of the record", WITH_RECORD, any_record_byte),
+    record_fault("sections of noise", WITH_RECORD, sections_of_noise),
+    record_fault("record of another length", WITH_RECORD, record_length),
 ];
 
-fn put_record_z1(input: &mut Input, place: usize, value: i16) {
-    let at = 24 + 2 * place;
-    if let Some(bytes) = input.record.get_mut(at..at + 2) {
-        bytes.copy_from_slice(&value.to_le_bytes());
+/// More than any record has.
+const BEYOND: usize = Form::Plain.longest() + 62;
+
+/// Puts an entry of a section, as far as the record goes, in as many bits as it has.
+fn put_entry(record: &mut [u8], form: Form, section: Section, index: usize, entry: i64) {
+    let bits = form.bits(section);
+    let start = 8 * form.offset(section) + bits * index;
+    for place in 0..bits {
+        let at = start + place;
+        if at / 8 < record.len() && bit(record, at) != (entry >> place & 1 == 1) {
+            turn_bit(record, at);
+        }
     }
 }
 
@@ -38,37 +59,67 @@ fn short_record_output(input: &mut Input, noise: &mut Noise) {
     input.lengths.record = noise.one_of(&[0, 1, 24, under]);
 }
 
-fn header_byte(input: &mut Input, noise: &mut Noise) {
-    if let Some(byte) = input.record.get_mut(noise.below(24)) {
+/// Puts bytes at the front, as far as the record goes.
+fn put_front(record: &mut [u8], bytes: &[u8]) {
+    for (byte, other) in record.iter_mut().zip(bytes) {
+        *byte = *other;
+    }
+}
+
+fn other_letters(form: Form, input: &mut Input, _: &mut Noise) {
+    put_front(input.record_in(form), form.other().letters());
+}
+
+/// The whole header, with this form's letters or its own.
+fn other_header(form: Form, input: &mut Input, noise: &mut Noise) {
+    let mut header = form.other().header(set_of(input));
+    if noise.bit() {
+        put_front(&mut header, form.letters());
+    }
+    put_front(input.record_in(form), &header);
+}
+
+fn header_byte(form: Form, input: &mut Input, noise: &mut Noise) {
+    if let Some(byte) = input.record_in(form).get_mut(noise.below(HEADER)) {
         *byte = noise.word() as u8;
     }
 }
 
-fn set_byte(input: &mut Input, noise: &mut Noise) {
-    if let Some(byte) = input.record.get_mut(4) {
+fn set_byte(form: Form, input: &mut Input, noise: &mut Noise) {
+    if let Some(byte) = input.record_in(form).get_mut(4) {
         *byte = noise.below(Set::ABOVE as usize + 2) as u8;
     }
 }
 
-fn record_length(input: &mut Input, noise: &mut Noise) {
-    let length = noise.below(LONGEST + 62);
-    input.record.resize(length, 0);
-}
-
-fn record_list(input: &mut Input, noise: &mut Noise) {
-    if let Some(bytes) = input.record.get_mut(1560..) {
-        let mut list: Vec<u16> = bytes
-            .chunks_exact(2)
-            .map(|pair| u16::from_le_bytes([pair[0], pair[1]]))
-            .collect();
-        deform(&mut list, noise);
-        for (pair, place) in bytes.chunks_exact_mut(2).zip(list) {
-            pair.copy_from_slice(&place.to_le_bytes());
-        }
+fn spare_bit(form: Form, input: &mut Input, noise: &mut Noise) {
+    let place = noise.one_of(&form.spare_bits(set_of(input)));
+    let record = input.record_in(form);
+    if place / 8 < record.len() {
+        turn_bit(record, place);
     }
 }
 
-fn record_z1_entry(input: &mut Input, noise: &mut Noise) {
+fn record_length(form: Form, input: &mut Input, noise: &mut Noise) {
+    let (any, record) = (noise.below(BEYOND), input.record_in(form));
+    let length = noise.one_of(&[record.len().saturating_sub(1), record.len() + 1, any]);
+    record.resize(length, 0);
+}
+
+fn record_list(form: Form, input: &mut Input, noise: &mut Noise) {
+    let set = set_of(input);
+    let record = input.record_in(form);
+    let Some(bytes) = record.get(form.part(Section::List, set)) else {
+        return;
+    };
+    let places = form.decoded(Section::List, set, bytes);
+    let mut list: Vec<u16> = places.into_iter().map(|place| place as u16).collect();
+    deform(&mut list, noise);
+    for (index, place) in list.into_iter().enumerate() {
+        put_entry(record, form, Section::List, index, place.into());
+    }
+}
+
+fn record_z1_entry(form: Form, input: &mut Input, noise: &mut Noise) {
     let value = noise.one_of(&[
         i16::MIN,
         i16::MAX,
@@ -81,39 +132,57 @@ fn record_z1_entry(input: &mut Input, noise: &mut Noise) {
         2100,
         2101,
         -2101,
+        4095,
+        -4096,
+        8191,
+        -8192,
+        -1,
     ]);
-    put_record_z1(input, noise.below(N), value);
+    let place = place_in(N, noise);
+    put_entry(
+        input.record_in(form),
+        form,
+        Section::Z1,
+        place,
+        value.into(),
+    );
 }
 
-fn record_z2_entry(input: &mut Input, noise: &mut Noise) {
-    let value = noise.one_of(&[i8::MIN, i8::MAX, 1, -1, 2, 3, -3, 6, -6, 7, -7]);
-    if let Some(byte) = input.record.get_mut(1048 + noise.below(N)) {
-        *byte = value as u8;
-    }
+fn record_z2_entry(form: Form, input: &mut Input, noise: &mut Noise) {
+    let value = noise.one_of(&[i8::MIN, i8::MAX, 1, -1, 2, 3, -3, 6, -6, 7, -7, -8, 15, -16]);
+    let place = place_in(N, noise);
+    put_entry(
+        input.record_in(form),
+        form,
+        Section::Z2Dagger,
+        place,
+        value.into(),
+    );
 }
 
-fn record_sum(input: &mut Input, noise: &mut Noise) {
-    let value = noise.between(200, 1563) as i16;
+fn record_sum(form: Form, input: &mut Input, noise: &mut Noise) {
+    let value = noise.between(200, 1563);
     for place in 0..N {
-        put_record_z1(input, place, value);
+        put_entry(input.record_in(form), form, Section::Z1, place, value);
     }
 }
 
-fn any_record_byte(input: &mut Input, noise: &mut Noise) {
-    if !input.record.is_empty() {
-        let at = noise.below(input.record.len());
-        input.record[at] ^= 1 << noise.below(8);
+fn any_record_byte(form: Form, input: &mut Input, noise: &mut Noise) {
+    let record = input.record_in(form);
+    if !record.is_empty() {
+        let at = noise.below(record.len());
+        record[at] ^= 1 << noise.below(8);
     }
 }
 
-fn record_of_noise(input: &mut Input, noise: &mut Noise) {
-    let length = noise.below(LONGEST + 62);
-    input.record = (0..length).map(|_| noise.word() as u8).collect();
+fn record_of_noise(form: Form, input: &mut Input, noise: &mut Noise) {
+    let length = noise.below(BEYOND);
+    *input.record_in(form) = (0..length).map(|_| noise.word() as u8).collect();
 }
 
 /// The header as it is, and any bytes after it.
-fn sections_of_noise(input: &mut Input, noise: &mut Noise) {
-    for byte in input.record.iter_mut().skip(24) {
+fn sections_of_noise(form: Form, input: &mut Input, noise: &mut Noise) {
+    for byte in input.record_in(form).iter_mut().skip(HEADER) {
         *byte = noise.word() as u8;
     }
 }

@@ -1,9 +1,10 @@
 //! The faults that are planted, and the one that is in the library now.
 
+use second::form::FIELDS;
 #[cfg(target_arch = "x86_64")]
 use second::parameters::KeyCounts;
 use second::testing::calls::Call::{self, *};
-use second::Set;
+use second::{Form, Set};
 use std::cell::Cell;
 use std::fmt;
 
@@ -52,6 +53,24 @@ pub enum Wrong {
     CountsFirst,
     /// The counts are tested after the relation.
     CountsLast,
+    /// A header whose field at this byte is wrong passes.
+    Field(u32),
+    /// A record of the other form is taken.
+    OtherForm,
+    /// Bits of a packed record go high first within a byte.
+    HighFirst,
+    /// The thirteenth bit of an entry of z1 is the twelfth.
+    TwelveBits,
+    /// A spare bit that is set passes.
+    SpareUntested,
+    /// Spare bits are tested before the header's fields after the set.
+    SpareFirst,
+    /// Spare bits are tested after the list and the limits.
+    SpareLast,
+    /// A spare bit is written as one.
+    SpareSet,
+    /// The output for a record is tested first.
+    RoomFirst,
 }
 
 /// A rule on the counts of f and of g that lets more keys pass than the paper's.
@@ -177,6 +196,15 @@ impl fmt::Display for Wrong {
             Wrong::Counts(rule) => write!(out, "counts {rule}"),
             Wrong::CountsFirst => write!(out, "counts tested before 3, 4 and 5"),
             Wrong::CountsLast => write!(out, "counts tested after 6"),
+            Wrong::Field(place) => write!(out, "header field at byte {place} not tested"),
+            Wrong::OtherForm => write!(out, "a record of the other form taken"),
+            Wrong::HighFirst => write!(out, "bits go high first"),
+            Wrong::TwelveBits => write!(out, "z1 has twelve bits an entry"),
+            Wrong::SpareUntested => write!(out, "spare bits not tested"),
+            Wrong::SpareFirst => write!(out, "spare bits tested before the fields after the set"),
+            Wrong::SpareLast => write!(out, "spare bits tested after 5, 10 and 11"),
+            Wrong::SpareSet => write!(out, "a spare bit written as one"),
+            Wrong::RoomFirst => write!(out, "14 tested before the other refusals"),
         }
     }
 }
@@ -200,8 +228,8 @@ fn written(call: Call) -> &'static [Buffer] {
         Commitment | Rebuild | RebuildDefaultOne => &[Rounded],
         CommitmentWithRests => &[Rounded, Rests],
         Respond => &[Z1, Z2],
-        Write => &[Record],
-        Read => &[Z1, Z2, List],
+        Write | WritePacked | Pack | Unpack => &[Record],
+        Read | ReadPacked => &[Z1, Z2, List],
         _ => &[],
     }
 }
@@ -229,6 +257,29 @@ fn wrong_sets(call: Call) -> Vec<Wrong> {
     wrongs
 }
 
+/// What can be wrong with the record that a call is lent, or writes.
+fn wrong_records(call: Call) -> Vec<Wrong> {
+    let (takes, writes) = (call.takes(), call.writes());
+    let mut wrongs = Vec::new();
+    if takes.is_some() {
+        wrongs.push(Wrong::OtherForm);
+        wrongs.extend(FIELDS.map(|field| Wrong::Field(field.start as u32)));
+    }
+    if writes.is_some() {
+        wrongs.extend([Wrong::Tail(Record), Wrong::RoomFirst]);
+    }
+    if [takes, writes].contains(&Some(Form::Packed)) {
+        wrongs.extend([Wrong::HighFirst, Wrong::TwelveBits]);
+    }
+    if takes == Some(Form::Packed) {
+        wrongs.extend([Wrong::SpareUntested, Wrong::SpareFirst, Wrong::SpareLast]);
+    }
+    if writes == Some(Form::Packed) {
+        wrongs.push(Wrong::SpareSet);
+    }
+    wrongs
+}
+
 /// What can be wrong with a call.
 fn wrongs(call: Call) -> Vec<Wrong> {
     let mut wrongs = wrong_sets(call);
@@ -242,10 +293,10 @@ fn wrongs(call: Call) -> Vec<Wrong> {
         }
     }
     wrongs.push(Wrong::Place);
+    wrongs.extend(wrong_records(call));
     match call {
         Respond => wrongs.extend([0, 15, 8, 9, 10, 11].map(Wrong::Words)),
-        Read => wrongs.extend([Wrong::Set, Wrong::Tail(List), Wrong::OlderList]),
-        Write => wrongs.push(Wrong::Tail(Record)),
+        Read | ReadPacked => wrongs.extend([Wrong::Set, Wrong::Tail(List), Wrong::OlderList]),
         Z1Section | Z2Section | ListSection => wrongs.extend([Wrong::Start, Wrong::Length]),
         _ => {}
     }

@@ -4,11 +4,13 @@
 use crate::faults::{wrong_with, Buffer, Wrong};
 use bursztok::foreign::{Answer, Part, Reading, Response};
 use second::answers::number_and_place;
+use second::form::{bit, turn_bit, Section, HEADER};
 use second::key::{counts_of, require_counts, require_key_length, require_relation};
 use second::parameters::N;
+use second::record::Held;
 use second::testing::calls::Call;
-use second::{Edition, Refusal, Set};
-use std::slice::from_raw_parts;
+use second::{pack, unpack, Edition, Form, Refusal, Set};
+use std::slice::{from_raw_parts, from_raw_parts_mut};
 
 /// A number with a lowest digit that can be turned.
 trait Digit: Copy {
@@ -50,7 +52,8 @@ impl Answered {
     fn spoil_answer(self, number: &mut u32, place: &mut u32) {
         let placed = |number| [10, 13].contains(&number);
         let has_places = self.call.numbers().iter().any(|&number| placed(number));
-        if self.is(Wrong::Missed(self.number)) {
+        let field = self.number == 13 && self.is(Wrong::Field(*place));
+        if self.is(Wrong::Missed(self.number)) || field {
             (*number, *place) = (0, 0);
         }
         if self.is(Wrong::Place) && (placed(self.number) || !has_places && self.number != 0) {
@@ -98,7 +101,7 @@ impl Answered {
             Some(Wrong::Entry(wrong)) if wrong == buffer && done => 0,
             Some(Wrong::Refused(wrong)) if wrong == buffer && !done && length > 0 => 0,
             Some(Wrong::Before(wrong)) if wrong == buffer && done => -1,
-            Some(Wrong::Tail(wrong)) if wrong == buffer && done && has_tail(buffer, length) => {
+            Some(Wrong::Tail(wrong)) if wrong == buffer && done && self.has_tail(length) => {
                 length as isize - 1
             }
             _ => return,
@@ -108,11 +111,120 @@ impl Answered {
             *entry = (*entry).turned();
         }
     }
+
+    /// Whether a buffer of this length keeps a tail, whatever the set: a list does, and an output
+    /// longer than any record.
+    fn has_tail(self, length: usize) -> bool {
+        self.call
+            .writes()
+            .is_none_or(|form| length > form.longest())
+    }
+
+    /// The record that the library takes the lent one for; none where that makes no difference.
+    fn taken_for(self, lent: &[u8]) -> Option<Vec<u8>> {
+        let form = self.call.takes()?;
+        match self.wrong? {
+            Wrong::OtherForm if self.number == 13 => converted(form.other(), lent),
+            Wrong::SpareUntested => without_spare(lent).filter(|_| self.number == 13),
+            Wrong::HighFirst | Wrong::TwelveBits if self.number == 0 && form == Form::Packed => {
+                let mut record = lent.to_vec();
+                self.spoil_packed(&mut record);
+                Some(record)
+            }
+            _ => None,
+        }
+    }
+
+    /// The number and place of a library that tests spare bits or the output at the wrong place of
+    /// the order; none where that makes no difference.
+    fn by_order(self, lent: &[u8], place: u32, room: Option<usize>) -> Option<(u32, u32)> {
+        match self.wrong? {
+            Wrong::SpareFirst if self.number == 13 && place > 4 => {
+                let set = Set::stated(lent[4].into())?;
+                let last = Form::Packed.total(set) - 1;
+                let mut spare = Form::Packed.spare_bits(set).into_iter();
+                let found = last < lent.len() && spare.any(|place| bit(lent, place));
+                found.then_some((13, last as u32))
+            }
+            Wrong::SpareLast if self.number == 13 => {
+                let mut out = vec![0; bursztok::RECORD];
+                let later = unpack(&without_spare(lent)?, &mut out);
+                later.err().map(|refusal| (refusal.number, refusal.place))
+            }
+            Wrong::RoomFirst => {
+                let set = Set::stated(lent.get(4).copied()?.into())?;
+                self.without_room(set, room?)
+            }
+            _ => None,
+        }
+    }
+
+    /// 14 where a library that tests the output first refuses for it.
+    fn without_room(self, set: Set, room: usize) -> Option<(u32, u32)> {
+        let short = room < self.call.writes()?.total(set);
+        let refused = self.is(Wrong::RoomFirst) && self.number != 0;
+        (short && refused).then_some((Refusal::ROOM.number, 0))
+    }
+
+    /// Spoils the sections of a packed record that is done.
+    fn spoil_packed(self, record: &mut [u8]) {
+        let Some(set) = Set::stated(record[4].into()) else {
+            return;
+        };
+        let total = Form::Packed.total(set);
+        match self.wrong {
+            Some(Wrong::HighFirst) => {
+                for byte in &mut record[HEADER..total] {
+                    *byte = byte.reverse_bits();
+                }
+            }
+            Some(Wrong::TwelveBits) => {
+                let mut held = Held::of(Form::Packed, set, record);
+                for entry in &mut held.z1 {
+                    *entry = (*entry + 2048).rem_euclid(4096) - 2048;
+                }
+                let z1 = Form::Packed.encoded(Section::Z1, &held.z1);
+                record[Form::Packed.part(Section::Z1, set)].copy_from_slice(&z1);
+            }
+            Some(Wrong::SpareSet) => turn_bit(record, 8 * total - 1),
+            _ => {}
+        }
+    }
+
+    /// # Safety
+    /// `out` is good for `length` bytes and for one before them.
+    unsafe fn spoil_record(self, out: *mut u8, length: usize) {
+        if self.number == 0 && self.call.writes() == Some(Form::Packed) {
+            self.spoil_packed(unsafe { from_raw_parts_mut(out, length) });
+        }
+        unsafe { self.spoil_buffer(Buffer::Record, out, length) };
+    }
 }
 
-/// Whether a buffer of this length keeps a tail, whatever the set.
-fn has_tail(buffer: Buffer, length: usize) -> bool {
-    buffer == Buffer::List || length > bursztok::RECORD
+/// The record in the other form than this one, where it is a proper one of this form.
+fn converted(form: Form, record: &[u8]) -> Option<Vec<u8>> {
+    let set = Set::stated(record.get(4).copied()?.into())?;
+    let mut out = vec![0; form.other().total(set)];
+    let convert = match form {
+        Form::Plain => pack,
+        Form::Packed => unpack,
+    };
+    convert(record, &mut out).ok().map(|()| out)
+}
+
+/// A packed record without its spare bits, where one of them is set and its length is right.
+fn without_spare(record: &[u8]) -> Option<Vec<u8>> {
+    let set = Set::stated(record.get(4).copied()?.into())?;
+    if record.len() != Form::Packed.total(set) {
+        return None;
+    }
+    let mut without = record.to_vec();
+    for place in Form::Packed.spare_bits(set) {
+        if bit(record, place) {
+            turn_bit(&mut without, place);
+        }
+    }
+    (without != record).then_some(without)
 }
 
 /// The number that a library is asked with where this one stands for another set, or for none.
@@ -236,44 +348,105 @@ wrapped!(
     |found, answered| {}
 );
 
-wrapped!(
-    Write, __wrap_bursztok_write, __real_bursztok_write, [set],
-    (
-        set: u32, z1: *const i16, z1_len: usize, z2: *const i8, z2_len: usize, list: *const u16,
-        list_len: usize, out: *mut u8, out_len: usize,
-    ) -> Answer,
-    |found, answered| answered.spoil_buffer(Buffer::Record, out, out_len)
+macro_rules! wrapped_writer {
+    ($call:ident, $wrap:ident, $real:ident) => {
+        wrapped!(
+            $call, $wrap, $real, [set],
+            (
+                set: u32, z1: *const i16, z1_len: usize, z2: *const i8, z2_len: usize,
+                list: *const u16, list_len: usize, out: *mut u8, out_len: usize,
+            ) -> Answer,
+            |found, answered| {
+                let set = Set::asked(set).ok();
+                if let Some(order) = set.and_then(|set| answered.without_room(set, out_len)) {
+                    (found.number, found.place) = order;
+                }
+                answered.spoil_record(out, out_len);
+            }
+        );
+    };
+}
+
+wrapped_writer!(Write, __wrap_bursztok_write, __real_bursztok_write);
+wrapped_writer!(
+    WritePacked,
+    __wrap_bursztok_write_packed,
+    __real_bursztok_write_packed
 );
 
-wrapped!(
-    Read, __wrap_bursztok_read, __real_bursztok_read, [],
-    (
-        record: *const u8, record_len: usize, z1: *mut i16, z1_len: usize, z2: *mut i8,
-        z2_len: usize, list: *mut u16, list_len: usize,
-    ) -> Reading,
-    |found, answered| {
-        if answered.is(Wrong::Set) && answered.number == 0 {
-            found.set += 1;
-        }
-        if answered.is_unread(from_raw_parts(record, record_len)) {
-            (found.number, found.place, found.set) = (13, 4, 0);
-        }
-        let older = [z1_len, z2_len, list_len] == [N, N, Edition::OLDER.list_buffer()];
-        if answered.is(Wrong::OlderList) && answered.number == 2 && older {
-            found.number = 0;
-        }
-        answered.spoil_buffer(Buffer::Z1, z1, z1_len);
-        answered.spoil_buffer(Buffer::Z2, z2, z2_len);
-        answered.spoil_buffer(Buffer::List, list, list_len);
-    }
+macro_rules! wrapped_reader {
+    ($call:ident, $wrap:ident, $real:ident) => {
+        wrapped!(
+            $call, $wrap, $real, [],
+            (
+                record: *const u8, record_len: usize, z1: *mut i16, z1_len: usize, z2: *mut i8,
+                z2_len: usize, list: *mut u16, list_len: usize,
+            ) -> Reading,
+            |found, answered| {
+                let lent = from_raw_parts(record, record_len);
+                if answered.is(Wrong::Set) && answered.number == 0 {
+                    found.set += 1;
+                }
+                if answered.is_unread(lent) {
+                    (found.number, found.place, found.set) = (13, 4, 0);
+                }
+                let older = [z1_len, z2_len, list_len] == [N, N, Edition::OLDER.list_buffer()];
+                if answered.is(Wrong::OlderList) && answered.number == 2 && older {
+                    found.number = 0;
+                }
+                if let Some(order) = answered.by_order(lent, found.place, None) {
+                    (found.number, found.place) = order;
+                }
+                if let Some(other) = answered.taken_for(lent) {
+                    let (at, length) = (other.as_ptr(), other.len());
+                    found = $real(at, length, z1, z1_len, z2, z2_len, list, list_len);
+                }
+                answered.spoil_buffer(Buffer::Z1, z1, z1_len);
+                answered.spoil_buffer(Buffer::Z2, z2, z2_len);
+                answered.spoil_buffer(Buffer::List, list, list_len);
+            }
+        );
+    };
+}
+
+wrapped_reader!(Read, __wrap_bursztok_read, __real_bursztok_read);
+wrapped_reader!(
+    ReadPacked,
+    __wrap_bursztok_read_packed,
+    __real_bursztok_read_packed
 );
+
+macro_rules! wrapped_conversion {
+    ($call:ident, $wrap:ident, $real:ident) => {
+        wrapped!(
+            $call, $wrap, $real, [],
+            (record: *const u8, record_len: usize, out: *mut u8, out_len: usize) -> Answer,
+            |found, answered| {
+                let lent = from_raw_parts(record, record_len);
+                if answered.is_unread(lent) {
+                    (found.number, found.place) = (13, 4);
+                }
+                if let Some(order) = answered.by_order(lent, found.place, Some(out_len)) {
+                    (found.number, found.place) = order;
+                }
+                if let Some(other) = answered.taken_for(lent) {
+                    found = $real(other.as_ptr(), other.len(), out, out_len);
+                }
+                answered.spoil_record(out, out_len);
+            }
+        );
+    };
+}
+
+wrapped_conversion!(Pack, __wrap_bursztok_pack, __real_bursztok_pack);
+wrapped_conversion!(Unpack, __wrap_bursztok_unpack, __real_bursztok_unpack);
 
 /// A section call.
-type Section = unsafe extern "C" fn(*const u8, usize, *mut u32, *mut u32) -> Part;
+type SectionCall = unsafe extern "C" fn(*const u8, usize, *mut u32, *mut u32) -> Part;
 
 unsafe fn section(
     call: Call,
-    real: Section,
+    real: SectionCall,
     record: *const u8,
     record_len: usize,
     number: *mut u32,
@@ -283,7 +456,16 @@ unsafe fn section(
     let (number, place) = unsafe { (&mut *number, &mut *place) };
     let answered = Answered::new(call, *number);
     answered.spoil_answer(number, place);
-    if answered.is_unread(unsafe { from_raw_parts(record, record_len) }) {
+    let lent = unsafe { from_raw_parts(record, record_len) };
+    if answered.is(Wrong::OtherForm) && converted(Form::Packed, lent).is_some() {
+        // Somewhere in the packed record.
+        (*number, *place) = (0, 0);
+        return Part {
+            start: 24,
+            length: 832,
+        };
+    }
+    if answered.is_unread(lent) {
         (*number, *place) = (13, 4);
         return Part {
             start: 0,
@@ -359,4 +541,9 @@ wrapped_size!(
     RecordBytes,
     __wrap_bursztok_record_bytes,
     __real_bursztok_record_bytes
+);
+wrapped_size!(
+    PackedBytes,
+    __wrap_bursztok_packed_bytes,
+    __real_bursztok_packed_bytes
 );

@@ -8,9 +8,9 @@ bursztok-compare [--seed N] [--cases N | --seconds N] [--case N]
 
 Runs every call of the library against the second program: first the planned cases (every edge of a
 key's counts, every pair of faults of every call and set, every header bit, every length of a
-record, every count of words, every step of the draw, masks that make the dropped digits cost their
-figure), then random ones. At the end it tells how far 2^d times z2 dagger lay from z2 in each set,
-beside the figure.
+record, every spare bit and every bit of an entry in both forms, every count of words, every step of
+the draw, masks that make the dropped digits cost their figure), then random ones. At the end it
+tells how far 2^d times z2 dagger lay from z2 in each set, beside the figure.
 
   --seed N     what all cases are made from (default: a fresh one, which is printed)
   --cases N    so many random cases after the planned ones (default 1000)

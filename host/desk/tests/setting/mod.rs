@@ -111,6 +111,19 @@ pub fn files_of(set: Set, folder: &Folder) -> Files {
     }
 }
 
+/// The record of a sheet that the tool signs with these words more.
+#[allow(dead_code)]
+pub fn record_of(set: Set, folder: &Folder, more: &[&str]) -> String {
+    files_of(set, folder);
+    let (path, record) = (folder.path(""), folder.path("record"));
+    let number = set.number().to_string();
+    let sign = [
+        "sign", "--set", &number, "--folder", &path, "--record", &record,
+    ];
+    expect(&[&sign[..], more].concat(), 0, "given out");
+    record
+}
+
 #[allow(dead_code)]
 pub fn numbers(path: &str) -> Vec<i64> {
     let text = std::fs::read_to_string(Path::new(path)).unwrap();

@@ -1,11 +1,12 @@
 //! The calls over one kind of input and answer, for programs that run them all.
 
-use crate::answers::{number_and_place, Refusal};
+use crate::answers::{number_and_place, Reading, Refusal};
+use crate::form::Form;
 use crate::parameters::{Set, LIST_BUFFER, N};
-use crate::record::total;
 use crate::{commitment, commitment_with_rests, compare, key_test, read, rebuild, respond, write};
 use crate::{compare_default_one, rebuild_default_one};
-use crate::{kappa, list_section, record_bytes, z1_section, z2_section};
+use crate::{kappa, list_section, packed_bytes, record_bytes, z1_section, z2_section};
+use crate::{pack, read_packed, unpack, write_packed};
 
 #[derive(Clone, Copy, Debug, PartialEq, Eq, PartialOrd, Ord)]
 pub enum Call {
@@ -22,12 +23,17 @@ pub enum Call {
     CommitmentWithRests,
     RebuildDefaultOne,
     CompareDefaultOne,
+    WritePacked,
+    ReadPacked,
+    Pack,
+    Unpack,
     Kappa,
     RecordBytes,
+    PackedBytes,
 }
 
 impl Call {
-    pub const ALL: [Call; 15] = [
+    pub const ALL: [Call; 20] = [
         Call::KeyTest,
         Call::Commitment,
         Call::Respond,
@@ -41,17 +47,43 @@ impl Call {
         Call::CommitmentWithRests,
         Call::RebuildDefaultOne,
         Call::CompareDefaultOne,
+        Call::WritePacked,
+        Call::ReadPacked,
+        Call::Pack,
+        Call::Unpack,
         Call::Kappa,
         Call::RecordBytes,
+        Call::PackedBytes,
     ];
 
-    /// The calls on a record.
-    pub const ON_RECORD: [Call; 4] = [
-        Call::Read,
-        Call::Z1Section,
-        Call::Z2Section,
-        Call::ListSection,
-    ];
+    /// The calls that are lent a record of this form.
+    pub fn lent(form: Form) -> &'static [Call] {
+        match form {
+            Form::Plain => &[
+                Call::Read,
+                Call::Z1Section,
+                Call::Z2Section,
+                Call::ListSection,
+                Call::Pack,
+            ],
+            Form::Packed => &[Call::ReadPacked, Call::Unpack],
+        }
+    }
+
+    /// The form of the record that it is lent, where it is lent one.
+    pub fn takes(self) -> Option<Form> {
+        let mut forms = Form::ALL.into_iter();
+        forms.find(|&form| Call::lent(form).contains(&self))
+    }
+
+    /// The form of the record that it writes, where it writes one.
+    pub fn writes(self) -> Option<Form> {
+        match self {
+            Call::Write | Call::Unpack => Some(Form::Plain),
+            Call::WritePacked | Call::Pack => Some(Form::Packed),
+            _ => None,
+        }
+    }
 
     pub fn name(self) -> &'static str {
         match self {
@@ -68,19 +100,24 @@ impl Call {
             Call::CommitmentWithRests => "commitment with rests",
             Call::RebuildDefaultOne => "rebuild with default one",
             Call::CompareDefaultOne => "comparison with default one",
+            Call::WritePacked => "packed writer",
+            Call::ReadPacked => "packed reader",
+            Call::Pack => "packing",
+            Call::Unpack => "unpacking",
             Call::Kappa => "kappa",
             Call::RecordBytes => "record bytes",
+            Call::PackedBytes => "packed bytes",
         }
     }
 
-    /// Whether it is one of the papers' thirteen, which have a number.
+    /// Whether it is one of the papers' seventeen, which have a number.
     pub fn has_number(self) -> bool {
-        !matches!(self, Call::Kappa | Call::RecordBytes)
+        !matches!(self, Call::Kappa | Call::RecordBytes | Call::PackedBytes)
     }
 
-    /// Whether it is asked for a set.
+    /// Whether it is asked for a set: a record states its own.
     pub fn takes_set(self) -> bool {
-        !Call::ON_RECORD.contains(&self)
+        self.takes().is_none()
     }
 
     /// The set that a number asks the call for: 0 stands for set 4, and for set 1 on the calls that
@@ -101,10 +138,11 @@ impl Call {
             Call::Respond => &[0, 1, 2, 3, 4, 5, 15, 6, 8, 9, 10, 11],
             Call::Rebuild | Call::RebuildDefaultOne => &[0, 1, 2, 3, 5, 10, 11],
             Call::Compare | Call::CompareDefaultOne => &[0, 1, 5, 12],
-            Call::Write => &[0, 1, 2, 5, 10, 11, 14],
-            Call::Read => &[0, 2, 13, 5, 10, 11],
+            Call::Write | Call::WritePacked => &[0, 1, 2, 5, 10, 11, 14],
+            Call::Read | Call::ReadPacked => &[0, 2, 13, 5, 10, 11],
+            Call::Pack | Call::Unpack => &[0, 13, 5, 10, 11, 14],
             Call::Z1Section | Call::Z2Section | Call::ListSection => &[0, 13],
-            Call::Kappa | Call::RecordBytes => &[0],
+            Call::Kappa | Call::RecordBytes | Call::PackedBytes => &[0],
         }
     }
 }
@@ -125,8 +163,21 @@ pub struct Input {
     pub words: Vec<u64>,
     pub z1: Vec<i16>,
     pub z2_dagger: Vec<i8>,
+    /// What is lent to the calls that take a plain record.
     pub record: Vec<u8>,
+    /// What is lent to the calls that take a packed one.
+    pub packed: Vec<u8>,
     pub lengths: OutputLengths,
+}
+
+impl Input {
+    /// What is lent to the calls that take a record of this form.
+    pub fn record_in(&mut self, form: Form) -> &mut Vec<u8> {
+        match form {
+            Form::Plain => &mut self.record,
+            Form::Packed => &mut self.packed,
+        }
+    }
 }
 
 /// The lengths of the output buffers that are lent.
@@ -141,7 +192,7 @@ pub struct OutputLengths {
 }
 
 impl OutputLengths {
-    /// Every buffer at its stated length.
+    /// Every buffer at its stated length, that for a record at the plain one's.
     pub fn stated(set: Set) -> OutputLengths {
         OutputLengths {
             rounded: N,
@@ -149,7 +200,7 @@ impl OutputLengths {
             z1: N,
             z2_dagger: N,
             list: LIST_BUFFER,
-            record: total(set),
+            record: Form::Plain.total(set),
         }
     }
 }
@@ -171,7 +222,7 @@ pub struct Answered {
     pub place: u32,
     /// The response's count of words.
     pub words: u64,
-    /// The reader's set.
+    /// The set that a reader answers.
     pub set: u32,
     /// Start and length of a section in the lent record.
     pub part: (usize, usize),
@@ -221,6 +272,9 @@ pub fn run(call: Call, input: &Input, out: Outputs) -> Answered {
         Call::Compare => compare(*set, list, &input.hashed),
         Call::CompareDefaultOne => compare_default_one(*set, list, &input.hashed),
         Call::Write => write(*set, &input.z1, &input.z2_dagger, list, out.record),
+        Call::WritePacked => write_packed(*set, &input.z1, &input.z2_dagger, list, out.record),
+        Call::Pack => pack(&input.record, out.record),
+        Call::Unpack => unpack(&input.packed, out.record),
         Call::Respond => {
             let response = respond(
                 *set,
@@ -242,19 +296,26 @@ pub fn run(call: Call, input: &Input, out: Outputs) -> Answered {
             };
         }
         Call::Read => {
-            let reading = read(&input.record, out.z1, out.z2_dagger, out.list);
-            return Answered {
-                set: reading.set,
-                ..Answered::new(number_and_place(reading.outcome))
-            };
+            return reading(read(&input.record, out.z1, out.z2_dagger, out.list));
+        }
+        Call::ReadPacked => {
+            return reading(read_packed(&input.packed, out.z1, out.z2_dagger, out.list));
         }
         Call::Z1Section => return section(&input.record, z1_section),
         Call::Z2Section => return section(&input.record, z2_section),
         Call::ListSection => return section(&input.record, list_section),
         Call::Kappa => return Answered::of_size(kappa(*set) as usize),
         Call::RecordBytes => return Answered::of_size(record_bytes(*set) as usize),
+        Call::PackedBytes => return Answered::of_size(packed_bytes(*set) as usize),
     };
     Answered::new(number_and_place(outcome))
+}
+
+fn reading(reading: Reading) -> Answered {
+    Answered {
+        set: reading.set,
+        ..Answered::new(number_and_place(reading.outcome))
+    }
 }
 
 fn section(record: &[u8], call: for<'a> fn(&'a [u8], &mut u32, &mut u32) -> &'a [u8]) -> Answered {

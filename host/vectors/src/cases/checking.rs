@@ -2,13 +2,13 @@
 
 use super::faults::ROUNDED_OUTPUT;
 use super::Recording;
-use crate::slots::{Asked, A, HASHED, LIST, RECORD, Z1, Z2_DAGGER};
+use crate::slots::{A, HASHED, LIST, RECORD, Z1, Z2_DAGGER};
 use second::parameters::N;
-use second::record::header;
+use second::record::Held;
 use second::testing::boundary::{largest_z2_dagger, signature_of_sum};
 use second::testing::calls::Call;
 use second::testing::sheet::Signature;
-use second::Set;
+use second::{Form, Set};
 
 /// The calls that rebuild, and those that compare: with each default.
 pub(super) const REBUILDING: [Call; 2] = [Call::Rebuild, Call::RebuildDefaultOne];
@@ -54,17 +54,6 @@ impl Recording<'_> {
         }
     }
 
-    /// A call of the set: with 0 on a call that keeps the old default, where that stands for it.
-    fn asked_of(&self, call: Call) -> Asked {
-        match call {
-            Call::RebuildDefaultOne | Call::CompareDefaultOne if self.set == Set::I => Asked {
-                set: 0,
-                ..self.asked()
-            },
-            _ => self.asked(),
-        }
-    }
-
     /// Sums exactly at B2 squared and one past it, and for set I every entry at largest.
     pub(super) fn sums(&mut self) {
         let list = self.noise.list(self.set);
@@ -74,6 +63,7 @@ impl Recording<'_> {
         let zero = z1.iter().position(|&entry| entry == 0);
         z1[zero.expect("most entries are zero")] = -1;
         self.sum(&z1, &z2_dagger, &list);
+        self.call(Call::WritePacked);
         if self.set != Set::I {
             return;
         }
@@ -92,11 +82,8 @@ impl Recording<'_> {
         self.recorder.load(Z2_DAGGER, z2_dagger);
         self.call(Call::Rebuild);
         self.call(Call::Write);
-        let mut record = header(self.set).to_vec();
-        record.extend(z1.iter().flat_map(|entry| entry.to_le_bytes()));
-        record.extend(z2_dagger.iter().flat_map(|entry| entry.to_le_bytes()));
-        record.extend(list.iter().flat_map(|place| place.to_le_bytes()));
-        self.recorder.load(RECORD, &record);
+        let held = Held::new(self.set, z1, z2_dagger, list);
+        self.recorder.load(RECORD, &held.record(Form::Plain));
         self.call(Call::Read);
     }
 }

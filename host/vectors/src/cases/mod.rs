@@ -4,6 +4,7 @@ mod checking;
 mod defaults;
 mod faults;
 mod keys;
+mod packed;
 mod records;
 mod reference;
 mod signing;
@@ -35,8 +36,9 @@ pub fn vectors(seed: u64) -> Vec<u8> {
         recording.rebuild_refusals(&signed.signature);
         recording.comparisons(&signed.signature.list);
         recording.defaults(&signed.last_try);
-        recording.writer_refusals(&signed.signature);
+        recording.writer_refusals(Call::Write, &signed.signature);
         recording.reader_refusals(&signed.signature);
+        recording.both_forms(&signed.signature);
         recording.sums();
         recording.other_keys();
         if set.like() == set {
@@ -85,9 +87,24 @@ impl Recording<'_> {
         asked(self.set.number())
     }
 
-    /// Records a call with the set's number and outputs of the stated lengths.
+    /// This call of the set: with 0 where that stands for it by the old default, and on a conversion,
+    /// which takes no set. An output for a record is as long as the record.
+    fn asked_of(&self, call: Call) -> Asked {
+        let old_default = matches!(call, Call::RebuildDefaultOne | Call::CompareDefaultOne);
+        let conversion = call.takes().is_some() && call.writes().is_some();
+        let mut asked = self.asked();
+        if conversion || old_default && self.set == Set::I {
+            asked.set = 0;
+        }
+        if let Some(form) = call.writes() {
+            asked.lengths.record = form.total(self.set);
+        }
+        asked
+    }
+
+    /// Records a call of the set with outputs of the stated lengths.
     fn call(&mut self, call: Call) -> Answered {
-        let asked = self.asked();
+        let asked = self.asked_of(call);
         self.recorder.call(call, asked)
     }
 }

@@ -38,6 +38,7 @@ pub fn reference_point(recorder: &mut Recorder) {
             recorder.call(call, asked(set));
         }
         recorder.call(Call::Write, asked(set));
+        recorder.call(Call::WritePacked, asked(set));
     }
     for (entry, beyond) in [(2100, 2101), (-2100, -2101)] {
         for value in [entry, beyond] {

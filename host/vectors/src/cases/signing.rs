@@ -31,10 +31,7 @@ impl Recording<'_> {
             self.recorder.load(HASHED, &signature.list);
             self.call(Call::Compare);
             self.call(Call::Write);
-            self.load_record(signature);
-            for call in Call::ON_RECORD {
-                self.call(call);
-            }
+            self.readings(signature);
             last = Some(signed);
         }
         last.expect("there were sheets")

@@ -5,6 +5,7 @@ use lib.ListN.{length}
 use Rattle.sets.specs.declared.Set.{Set}
 use Rattle.answers.specs.declared.Outcome.{Outcome}
 use Rattle.answers.specs.Outcomes.{numberOf, placeOf}
+use Rattle.record_forms.specs.declared.Form.the-variants.{Plain}
 use Rattle.record_forms.specs.declared.Header.{Header}
 use Rattle.record_forms.specs.declared.Header.the-variants.{States}
 use Rattle.record_forms.specs.Headers.{headerIn}
@@ -18,7 +19,7 @@ told : (p : ℕ × ℕ) (bytes : List ℕ) (number place : ℕ) (o : Outcome) �
     → fetched p bytes number place ≡ fetched p bytes (numberOf o) (placeOf o)
 told p bytes number place o e = let f = e .0 in let g = e .1 in cc
 
-module _ (rec : List ℕ) (from to : ℕ) (fit : (s : Set) → headerIn rec ≡ States s → (from ≤ to) × (to ≤ length rec)) (h : Header) (s : Set) (is : h ≡ headerIn rec) (e : h ≡ States s) where
+module _ (rec : List ℕ) (from to : ℕ) (fit : (s : Set) → headerIn Plain rec ≡ States s → (from ≤ to) × (to ≤ length rec)) (h : Header) (s : Set) (is : h ≡ headerIn Plain rec) (e : h ≡ States s) where
   starts : from ≤ to
   starts = fit s (sym is ∙ e) .0
 

@@ -5,8 +5,9 @@ use mathlib.Core.Bool.{true}
 use denote.Ref.{now}
 use Rattle.laws.specs.Lists.{every}
 use Rattle.answers.specs.Outcomes.{numberOf}
-use Rattle.answers.proofs.Slots.{read-z1, read-z2, read-list}
+use Rattle.answers.proofs.Slots.{reader-z1, reader-z2, reader-list}
 use Rattle.byte_codes.specs.Bytes.{isByte}
+use Rattle.records.specs.Writer.{offered}
 use Rattle.records.proofs.Owned.{fit-bytes}
 use Rattle.records.proofs.RoundTrip.{WritesBack, read-writes}
 use Rattle.records.proofs.read.Reads as read
@@ -22,7 +23,7 @@ lent-bytes c = fit-bytes (now (c .before .args .rec)) (c .shared-slice-known .gi
 
 -- whatever the contract admits of such a call, if its number is 0
 pub lent-read-writes : (c : Call) (r : _) (s : _)
-    → read.Post (c .before .κs) (c .before .args .rec, (c .before .args .z1, (c .before .args .z2, (c .before .args .list, tt)))) r s
+    → read.Post (c .before .κs) (c .before .args .form, (c .before .args .rec, (c .before .args .z1, (c .before .args .z2, (c .before .args .list, tt))))) r s
     → numberOf (r .outcome) ≡ 0
-    → WritesBack (now (c .before .args .rec)) (r .set) (now (read-z1 s)) (now (read-z2 s)) (now (read-list s))
-lent-read-writes c r s post zero = read-writes _ (lent-bytes c) _ _ _ _ _ _ _ _ zero (sym post)
+    → WritesBack (c .before .args .form) (now (c .before .args .rec)) (offered (r .set) (now (reader-z1 s)) (now (reader-z2 s)) (now (reader-list s)))
+lent-read-writes c r s post zero = read-writes _ _ (lent-bytes c) _ _ _ _ _ _ zero (sym post)

@@ -4,10 +4,10 @@ use Rattle.replay.proofs.tally.print.Statement.{statement}
 use Rattle.replay.proofs.tally.print.Tie as tie
 
 abbrev Inv-loop : tie.InvT-loop
-Inv-loop counts sum₀ i₀ t4 t5 sum i = (16 ≤ i) × (i ≤ 224)
+Inv-loop counts sum₀ i₀ t4 t5 sum i = (16 ≤ i) × (i ≤ 288)
 
 abbrev μ-loop : tie.MeasureT-loop
-μ-loop counts sum₀ i₀ t4 t5 sum i = 224 - i
+μ-loop counts sum₀ i₀ t4 t5 sum i = 288 - i
 
 loop-holds : tie.Need-loop-holds Inv-loop μ-loop
 loop-holds c = search needs
