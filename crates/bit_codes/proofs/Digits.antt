@@ -98,7 +98,7 @@ unfolding recoded
 recoded-back v w count count′ xs long small fits =
     ap (digits w count) (number-digits v count′ (number w xs) fits) ∙ ap (λ (n : ℕ). digits w n (number w xs)) (sym long) ∙ digits-number w xs small
 
--- ---- lengths and bounds of a section
+-- ---- lengths of a section
 pub length-packed : (w count : ℕ) (entries : List ℕ) → length (packedBits w count entries) ≡ bytesFor (w * count)
 unfolding recoded
 length-packed w count entries = length-digits 8 (bytesFor (w * count)) (number w entries)
@@ -106,10 +106,6 @@ length-packed w count entries = length-digits 8 (bytesFor (w * count)) (number w
 pub length-unpacked : (w count : ℕ) (bytes : List ℕ) → length (unpackedBits w count bytes) ≡ count
 unfolding recoded
 length-unpacked w count bytes = length-digits w count (number 8 bytes)
-
-pub unpacked-below : (w count : ℕ) (bytes : List ℕ) (k : ℕ) → getD (unpackedBits w count bytes) k 0 < 2 ^ w
-unfolding recoded
-unpacked-below w count bytes = digits-below w count (number 8 bytes)
 
 -- ---- a section of `count` entries of w bits: entries to bytes and back, bytes whose spare bits are zero to entries and back
 module _ (w count : ℕ) where

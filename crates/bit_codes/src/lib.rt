@@ -45,7 +45,7 @@ fn entry_at(entries: &[u16], i: usize) -> usize
 }
 
 // The bits from a place on, counted in bits, of a record's bytes.
-pub fn bits_at(bytes: &[u8], at: usize, width: usize) -> u16
+fn bits_at(bytes: &[u8], at: usize, width: usize) -> u16
     requires { ⌜ width ≤ 16 ⌝ }
     ensures { λ r. ⌜ r ≡ bitsFrom at width (now (bytes .entry)) ⌝ }
 {
@@ -61,7 +61,7 @@ pub fn bits_at(bytes: &[u8], at: usize, width: usize) -> u16
 }
 
 // The byte from a place on, counted in bits, of entries of `width` bits.
-pub fn byte_of(entries: &[u16], at: usize, width: usize) -> u8
+fn byte_of(entries: &[u16], at: usize, width: usize) -> u8
     requires { ⌜ (4 ≤ width) × (width ≤ 16) × ((k : ℕ) → getD (now entries) k 0 < 2 ^ width) ⌝ }
     ensures { λ r. ⌜ r ≡ number width (now (entries .entry)) / 2 ^ at % 2 ^ 8 ⌝ }
 {
@@ -116,7 +116,7 @@ pub fn spare_clear(bytes: &[u8], bits: usize) -> bool
 
 // ---- two's complement in `width` bits, from byte_codes' in 16
 
-pub fn bits_in(a: i16, width: usize) -> u16
+fn bits_in(a: i16, width: usize) -> u16
     requires { ⌜ (width ≤ 16) × (2 * natAbs a < 2 ^ width) ⌝ }
     ensures { λ r. ⌜ r ≡ complement width a ⌝ }
 {
@@ -124,7 +124,7 @@ pub fn bits_in(a: i16, width: usize) -> u16
     ((byte_codes::bits16(a) as usize) % mask) as u16
 }
 
-pub fn signed_in(x: u16, width: usize) -> i16
+fn signed_in(x: u16, width: usize) -> i16
     requires { ⌜ (1 ≤ width) × (width ≤ 16) × (x < 2 ^ width) ⌝ }
     ensures { λ r. ⌜ r ≡ fromComplement width x ⌝ }
 {

@@ -1,22 +1,16 @@
 -- What holds of the numbers of both forms: nothing outside this file goes by the form. Assumes nothing.
 use mathlib.Core.Path.{_≡_, refl, ap}
-use mathlib.Core.List.{[], _∷_}
 use Prim.Native.Nat.{ℕ, _+_, _*_, _^_, _<_, _≤_}
 use native.Mathlib.Nat.{mul-le-mul, mul-le-mul-left}
 use native.Mathlib.Omega.{arith}
 use lib.Dec.{lit≤}
-use lib.ListN.{getD}
 use Rattle.sets.specs.declared.Set.{Set}
 use Rattle.sets.specs.Numbers.{dimension, listLimit, Largest, kappaOf}
 use Rattle.sets.proofs.Alike.{kappa-within, list-limit}
 use Rattle.bit_codes.specs.Bits.{bytesFor}
 use Rattle.record_forms.specs.declared.Form.{Form}
 use Rattle.record_forms.specs.declared.Form.the-variants.{Plain, Packed}
-use Rattle.record_forms.specs.Forms.{lettersOf, z1BitsOf, z2BitsOf, listBitsOf, z1Offset, z2OffsetOf, listOffsetOf, totalOf, recordLimitOf}
-
--- four letters
-pub letters-four : (form : Form) → lettersOf form ≡ getD (lettersOf form) 0 0 ∷ getD (lettersOf form) 1 0 ∷ getD (lettersOf form) 2 0 ∷ getD (lettersOf form) 3 0 ∷ []
-letters-four form = elim form [ Plain ↦ refl | Packed ↦ refl ]
+use Rattle.record_forms.specs.Forms.{z1BitsOf, z2BitsOf, listBitsOf, z1Offset, z2OffsetOf, listOffsetOf, totalOf, recordLimitOf}
 
 -- each section starts where the one before it ends
 pub z2-after-z1 : (form : Form) → z2OffsetOf form ≡ z1Offset + bytesFor (z1BitsOf form * dimension)

@@ -1,7 +1,7 @@
 -- What the calls ask of lengths, and what they leave in the buffers. Assumes nothing.
 use mathlib.Core.Path.{_≡_, refl, sym, ap, _∙_}
 use mathlib.Core.Bool.{Bool, true, false, not}
-use mathlib.Core.List.{List, _++_, map}
+use mathlib.Core.List.{List, _++_}
 use Prim.Native.Nat.{ℕ, _+_, _-_, _≤_, _<_}
 use native.Mathlib.Omega.{arith}
 use borrow.Author.Tests.{not-false}
@@ -74,10 +74,6 @@ signature-read form s kappa rec list old z1 z2 e g =
     let p = g .0 in
     let q = g .1 in
     rw (p, q, front)
-
--- entries that were read, as many as the buffer has
-pub entries-read : {A : Type 0} (f : ℕ → A) (entries entries′ : List ℕ) (now : List A) → now ≡ map f entries → entries ≡ entries′ → now ≡ map f entries′
-entries-read f entries entries′ now e h = e ∙ ap (map f) h
 
 -- a part of a record is bytes too
 pub part-small : (rec : List ℕ) → ((k : ℕ) → getD rec k 0 < 256) → (from to k : ℕ) → getD (part from to rec) k 0 < 256

@@ -64,10 +64,6 @@ pub record WritesBack (form : Form) (rec : List ℕ) (a : Offered) : Type 0 wher
       → (o : Outcome) × (numberOf o ≡ 0) × (writingOf form (offered (a .set) (a .z1) (a .z2) (take (kappaOf s) (a .list))) out ≡ filled o (rec ++ drop (totalOf form s) out))
 
 -- ---- what a call passed that is done
--- what was read with the number 0, as the reader's contract has it
-pub read-done : {x : Found} {set : ℕ} {z1 z2 : List ℤ} {list : List ℕ} → (o : Outcome) × (numberOf o ≡ 0) × (x ≡ found o set z1 z2 list) → x ≡ found Done set z1 z2 list
-read-done r = let done : r .0 ≡ Done = zero-is (r .0) (r .1) in let is = r .2 in cc
-
 not-done : {o : Outcome} → isDone o ≡ false → o ≡ Done → ⊥
 not-done e f = differ (sym e ∙ ap isDone f)
 
