@@ -15,6 +15,8 @@
 #include <stdlib.h>
 
 #define WORDS 256
+/* The number that the ship's key has in the shore's book. */
+#define SHIP_KEY 4711
 
 /* Noise for show: xorshift64*. */
 static uint64_t noise_state = 20260301u;
@@ -107,7 +109,7 @@ static size_t sign_sheet(const char *sheet, uint8_t record[BURSZTOK_RECORD])
                                      BURSZTOK_VECTOR);
         require_done("commitment", answer.number, answer.place);
         hash_list(committed, sheet, list, kappa);
-        response = bursztok_respond(TEST_KEY_SET, test_key_f, BURSZTOK_VECTOR, test_key_g,
+        response = bursztok_respond(TEST_KEY_SET, SHIP_KEY, test_key_f, BURSZTOK_VECTOR, test_key_g,
                                     BURSZTOK_VECTOR, test_key_a, BURSZTOK_VECTOR, y1,
                                     BURSZTOK_VECTOR, y2, BURSZTOK_VECTOR, list, kappa,
                                     noise_word() >> 63 != 0, test_thresholds,
@@ -120,18 +122,25 @@ static size_t sign_sheet(const char *sheet, uint8_t record[BURSZTOK_RECORD])
     printf("signed at try %u, %llu words taken by the draw\n", tries,
            (unsigned long long)response.words);
 
-    answer = bursztok_write(TEST_KEY_SET, z1, BURSZTOK_VECTOR, z2, BURSZTOK_VECTOR, list, kappa,
-                            record, BURSZTOK_RECORD);
+    answer = bursztok_write(TEST_KEY_SET, response.key, z1, BURSZTOK_VECTOR, z2, BURSZTOK_VECTOR,
+                            list, kappa, record, BURSZTOK_RECORD);
     require_done("writer", answer.number, answer.place);
     return bursztok_record_bytes(TEST_KEY_SET);
 }
 
-/* The shore: checks the sheet with the public key and the record. */
+/* The public key that the shore holds under a number, or NULL. This shore holds one. */
+static const uint16_t *public_key(uint32_t number)
+{
+    return number == SHIP_KEY ? test_key_a : NULL;
+}
+
+/* The shore: reads which key signed, and checks the sheet with that public key and the record. */
 static bursztok_answer check_sheet(const char *sheet, const uint8_t *record, size_t length)
 {
     int16_t z1[BURSZTOK_VECTOR];
     int8_t z2[BURSZTOK_VECTOR];
     uint16_t rebuilt[BURSZTOK_VECTOR], claimed[BURSZTOK_LIST], hashed[BURSZTOK_LIST];
+    const uint16_t *a;
     size_t kappa;
     bursztok_reading reading;
     bursztok_answer answer;
@@ -143,8 +152,14 @@ static bursztok_answer check_sheet(const char *sheet, const uint8_t *record, siz
     if (answer.number != BURSZTOK_DONE) {
         return answer;
     }
+    a = public_key(reading.key);
+    if (a == NULL) {
+        fprintf(stderr, "no public key has the number %u\n", (unsigned)reading.key);
+        exit(1);
+    }
+    printf("the record states key number %u\n", (unsigned)reading.key);
     kappa = bursztok_kappa(reading.set);
-    answer = bursztok_rebuild(reading.set, test_key_a, BURSZTOK_VECTOR, z1, BURSZTOK_VECTOR, z2,
+    answer = bursztok_rebuild(reading.set, a, BURSZTOK_VECTOR, z1, BURSZTOK_VECTOR, z2,
                               BURSZTOK_VECTOR, claimed, kappa, rebuilt, BURSZTOK_VECTOR);
     if (answer.number != BURSZTOK_DONE) {
         return answer;

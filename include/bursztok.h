@@ -27,8 +27,8 @@
  *
  *   Every call answers on all input. `number` says what happened, `place` where; `place` is 0
  *   except with 10 and 13. No other number than 0 writes to any output array: on a refusal every
- *   one of them holds what it held before. Each call tests in the order given with it, and answers
- *   with the first condition that holds.
+ *   one of them holds what it held before, and `key`, where the answer has one, is 0. Each call
+ *   tests in the order given with it, and answers with the first condition that holds.
  *
  *    No.  When
  *     0   done
@@ -90,6 +90,18 @@
  *   words       the noise that the draw reads, from the front
  *   z1, z2      the signature's two vectors of 512 entries; z2 is z2 dagger of the papers
  *
+ * KEY NUMBERS
+ *
+ *   A signature is its set, its key number, z1, z2 and its list. The key number says which key
+ *   signed, so that a checker who holds many public keys need not try them all. It is the signer's
+ *   to give: every number that `key` holds is one, none is refused, and 0, BURSZTOK_KEY_NOT_STATED,
+ *   says that none is stated. bursztok_respond takes it and answers it, the writers put it into the
+ *   record, the readers answer it, and the conversions keep it.
+ *
+ *   It is a hint, and not signed: bursztok_rebuild and bursztok_compare do not use it, and a record
+ *   whose key number was changed reads as one with that number. Whose signature it is, the public
+ *   key tells under which the sheet holds.
+ *
  * RECORDS
  *
  *   A record is a signature as bytes, for storage or a link: a header of 24 bytes, then z1, z2 and
@@ -107,7 +119,7 @@
  *    14 - 15  places of the list  kappa of the set
  *    16 - 17  offset of the list  1560    1112
  *    18 - 19  total               the bytes of the record, which is its length
- *    20 - 23  zeros               0       0
+ *    20 - 23  key number          any     any; 0 where none is stated
  *
  *   A section starts on the byte that its offset says. The bits of an entry:
  *
@@ -137,19 +149,28 @@
  *
  *   What a reader tests, in this order: a record shorter than 24 bytes is 13 at its length; a wrong
  *   field is 13 at its first byte, the first one in the table before the others, and a record whose
- *   length is not the set's total 13 at 18; a spare bit that is set is 13 at the last byte, the
- *   total less 1. Then come 5, 10 and 11, of what the sections hold. So a record of the other form
- *   is 13 at 0, and a signature has exactly one record in each form.
+ *   length is not the set's total 13 at 18; the key number is never wrong; a spare bit that is set
+ *   is 13 at the last byte, the total less 1. Then come 5, 10 and 11, of what the sections hold. So
+ *   a record of the other form is 13 at 0, and a signature has exactly one record in each form.
  *
  *   Packed records are there since version 0.6.0. A reader from before refuses them with 13 at 0.
  *   Plain records are what they were, byte for byte.
  *
+ *   Records with a key number are there since version 0.7.0. A reader from before refuses them with
+ *   13 at 20. Bytes 20 to 23 were zeros then: a stored record states no key number, and a record
+ *   that states none is what it was, byte for byte.
+ *   A caller from before puts the key number behind the set on bursztok_respond, bursztok_write and
+ *   bursztok_write_packed, 0 for what they did, and is compiled anew, since the answers of the
+ *   response and of the readers have a field more.
+ *
  * SIGNING AND CHECKING A SHEET
  *
  *   Signer: draw masks; bursztok_commitment; hash the commitment and the sheet to a list;
- *   bursztok_respond. With 8 (and with 10 or 11) start again with new masks. Then bursztok_write.
- *   Checker: bursztok_read; bursztok_rebuild; hash the rebuilt vector and the sheet to a list;
- *   bursztok_compare the record's list with it. The sheet holds where every call gives 0.
+ *   bursztok_respond. With 8 (and with 10 or 11) start again with new masks. Then bursztok_write,
+ *   with the key number that the response answered.
+ *   Checker: bursztok_read; the public key of the key number that it answers, or with 0 each in
+ *   turn; bursztok_rebuild; hash the rebuilt vector and the sheet to a list; bursztok_compare the
+ *   record's list with it. The sheet holds, under that public key, where every call gives 0.
  *   For a link that is paid by the byte, as a satellite's, the signer calls bursztok_write_packed
  *   and the checker bursztok_read_packed in their places; or a stored record goes through
  *   bursztok_pack before it is sent, and through bursztok_unpack after.
@@ -167,7 +188,7 @@ extern "C" {
 #endif
 
 /* The version of this header and of the library that it belongs to. */
-#define BURSZTOK_VERSION "0.6.0"
+#define BURSZTOK_VERSION "0.7.0"
 
 /* The length of every vector. */
 #define BURSZTOK_VECTOR 512
@@ -179,6 +200,8 @@ extern "C" {
 #define BURSZTOK_RECORD 1786
 /* The length of the longest packed record. */
 #define BURSZTOK_PACKED 1240
+/* The key number of a signature that states none. */
+#define BURSZTOK_KEY_NOT_STATED 0
 
 /* The stack that a call takes at most, in bytes: see STATE, THREADS, STACK. */
 #define BURSZTOK_STACK_RESPOND 11300
@@ -223,15 +246,18 @@ typedef struct {
 } bursztok_answer;
 
 /* `words` is the count of words that the draw took: 0 for refusals before the draw (1 to 7 and 15),
- * the number of words lent with 9, and with 8 the failing word is counted. */
+ * the number of words lent with 9, and with 8 the failing word is counted. `key` is the key number
+ * that the response was given, and 0 when it refuses. */
 typedef struct {
     uint32_t number, place;
     uint64_t words;
+    uint32_t key;
 } bursztok_response;
 
-/* `set` is the set that the record states, 1 to 8, and 0 when the reader refuses. */
+/* `set` is the set that the record states, 1 to 8, and `key` its key number, or 0 where it states
+ * none. Both are 0 when the reader refuses. */
 typedef struct {
-    uint32_t number, place, set;
+    uint32_t number, place, set, key;
 } bursztok_reading;
 
 /* A part of the lent record: the bytes start .. start + length - 1. */
@@ -281,16 +307,17 @@ bursztok_answer bursztok_commitment_with_rests(uint32_t set,
                                                int16_t *rests, size_t rests_len);
 
 /*
- * The response to a list: z1 and z2 dagger of the signature, for the masks that the list was
- * made from. sign is the random sign bit; it must be 0 or 1. An entry of z2 stands for the z2 of
- * the papers, with d binary digits dropped: 2^d times the entry differs from it by at most
+ * The response to a list: z1 and z2 dagger of the signature, for the masks that the list was made
+ * from. key is the key number, any number, or 0 where none is stated: it is answered, and nothing
+ * else depends on it. sign is the random sign bit; it must be 0 or 1. An entry of z2 stands for the
+ * z2 of the papers, with d binary digits dropped: 2^d times the entry differs from it by at most
  * 2^d + 1, that is 1025, 1025, 513, 257 for sets 1 to 4, and as much for sets 5 to 8.
  *
  * Refusals in order: 1, 2, 3, 4, 5, 15, 7, 6, then 8 or 9 as the walk ends, then 10, 11.
  * Number 0 writes all of z1 and z2 (512 entries each). 2 covers z1 and z2 too.
  * With 8, 10 and 11 the try is spent: new masks, a new list, new words. With 9 lend more words.
  */
-bursztok_response bursztok_respond(uint32_t set,
+bursztok_response bursztok_respond(uint32_t set, uint32_t key,
                                    const int8_t *f, size_t f_len,
                                    const int8_t *g, size_t g_len,
                                    const uint16_t *a, size_t a_len,
@@ -349,12 +376,13 @@ bursztok_answer bursztok_compare_default_one(uint32_t set,
                                              const uint16_t *hashed, size_t hashed_len);
 
 /*
- * The record writer, of the plain form (see RECORDS).
+ * The record writer, of the plain form (see RECORDS). key is the key number, any number, or 0 where
+ * none is stated.
  *
  * Refusals in order: 1, 2, 5, 10, 11, 14. Number 0 writes the first bytes of out, as many as the
  * set's record has (see SETS); a longer out keeps its tail. A set of 0 is written as 4.
  */
-bursztok_answer bursztok_write(uint32_t set,
+bursztok_answer bursztok_write(uint32_t set, uint32_t key,
                                const int16_t *z1, size_t z1_len,
                                const int8_t *z2, size_t z2_len,
                                const uint16_t *list, size_t list_len,
@@ -385,7 +413,7 @@ bursztok_reading bursztok_read(const uint8_t *record, size_t record_len,
  * writes the first bytes of out, as many as the set's packed record has; a longer out keeps its
  * tail. The reader writes what bursztok_read writes.
  */
-bursztok_answer bursztok_write_packed(uint32_t set,
+bursztok_answer bursztok_write_packed(uint32_t set, uint32_t key,
                                       const int16_t *z1, size_t z1_len,
                                       const int8_t *z2, size_t z2_len,
                                       const uint16_t *list, size_t list_len,
@@ -398,7 +426,7 @@ bursztok_reading bursztok_read_packed(const uint8_t *record, size_t record_len,
 /*
  * The conversions: pack makes a packed record of a plain one, unpack a plain one of a packed one.
  * They give the bytes that the writer of the other form makes of the same signature, and one after
- * the other gives back the same bytes. The set is the one that the record states.
+ * the other gives back the same bytes. The set and the key number are those that the record states.
  *
  * Refusals in order: 13, 5, 10, 11, 14. 13 is given as the reader of the form that is lent gives
  * it, so 13 at 0 for a record that has the other form already. Number 0 writes the first bytes of
@@ -413,7 +441,8 @@ bursztok_answer bursztok_unpack(const uint8_t *record, size_t record_len,
 /*
  * The section calls, of a plain record: where the z1 bytes (two an entry, low byte first), the z2
  * dagger bytes (one an entry) and the list bytes (two a place, low byte first) lie in the lent
- * record. They test the header only, with the record's length. A packed record is 13 at 0.
+ * record. They test the header only, with the record's length; any key number will do. A packed
+ * record is 13 at 0.
  *
  * Refusals: 13 only, and then start and length of the part are 0. *number and *place are written
  * always; neither pointer may be NULL.

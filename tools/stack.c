@@ -22,6 +22,7 @@ static unsigned char region[REGION] __attribute__((aligned(64)));
 /* ---- good input: a key of the set's counts, masks of some size, the first kappa places */
 
 static uint32_t set;
+static const uint32_t key = 0x01020304;
 static int8_t f[BURSZTOK_VECTOR], g[BURSZTOK_VECTOR], z2[BURSZTOK_VECTOR];
 static uint16_t a[BURSZTOK_VECTOR], rounded[BURSZTOK_VECTOR];
 static int16_t y1[BURSZTOK_VECTOR], y2[BURSZTOK_VECTOR], z1[BURSZTOK_VECTOR];
@@ -141,10 +142,10 @@ static void commitment_with_rests(void)
 
 static void respond(void)
 {
-    number = bursztok_respond(set, f, BURSZTOK_VECTOR, g, BURSZTOK_VECTOR, a, BURSZTOK_VECTOR, y1,
-                              BURSZTOK_VECTOR, y2, BURSZTOK_VECTOR, list, kappa, sign, thresholds,
-                              BURSZTOK_THRESHOLDS, words, WORDS, z1, BURSZTOK_VECTOR, z2,
-                              BURSZTOK_VECTOR)
+    number = bursztok_respond(set, key, f, BURSZTOK_VECTOR, g, BURSZTOK_VECTOR, a, BURSZTOK_VECTOR,
+                              y1, BURSZTOK_VECTOR, y2, BURSZTOK_VECTOR, list, kappa, sign,
+                              thresholds, BURSZTOK_THRESHOLDS, words, WORDS, z1, BURSZTOK_VECTOR,
+                              z2, BURSZTOK_VECTOR)
                  .number;
 }
 
@@ -176,7 +177,7 @@ static void compare_default_one(void)
 
 static void write_record(void)
 {
-    number = bursztok_write(set, z1, BURSZTOK_VECTOR, z2, BURSZTOK_VECTOR, list, kappa, record,
+    number = bursztok_write(set, key, z1, BURSZTOK_VECTOR, z2, BURSZTOK_VECTOR, list, kappa, record,
                             record_len)
                  .number;
 }
@@ -190,7 +191,7 @@ static void read_record(void)
 
 static void write_packed(void)
 {
-    number = bursztok_write_packed(set, z1, BURSZTOK_VECTOR, z2, BURSZTOK_VECTOR, list, kappa,
+    number = bursztok_write_packed(set, key, z1, BURSZTOK_VECTOR, z2, BURSZTOK_VECTOR, list, kappa,
                                    packed, packed_len)
                  .number;
 }

@@ -2,10 +2,10 @@
  * The calls over a pipe, for machines that cannot link the library, which is made for x86-64: src/served.rs
  * asks, and this program, with the library linked, answers until its input ends.
  *
- * A request is the call's number (the cases of `answer`), the set, the sign bit and the count of
- * buffers, four bytes each, then every buffer: its length in bytes, eight bytes, and its contents. The reply is four
- * numbers of eight bytes, which are the number, the place and what else the call answers, then the contents of the
- * buffers that the call may write to, which are the last ones. All numbers are low byte first.
+ * A request is the call's number (the cases of `answer`), the set, the key number, the sign bit and the count of
+ * buffers, four bytes each, then every buffer: its length in bytes, eight bytes, and its contents. The reply is five
+ * numbers of eight bytes, which are the number, the place, what else the call answers and the key number, then the
+ * contents of the buffers that the call may write to, which are the last ones. All numbers are low byte first.
  */
 #include "bursztok.h"
 
@@ -20,11 +20,11 @@ typedef struct {
 } buffer;
 
 typedef struct {
-    uint32_t call, set, sign, buffers;
+    uint32_t call, set, key, sign, buffers;
 } request;
 
 typedef struct {
-    uint64_t number, place, more, length;
+    uint64_t number, place, more, length, key;
 } reply;
 
 static buffer lent[BUFFERS];
@@ -46,7 +46,7 @@ static void give(const void *at, uint64_t bytes)
 
 static reply told(bursztok_answer answer)
 {
-    return (reply){ answer.number, answer.place, 0, 0 };
+    return (reply){ answer.number, answer.place, 0, 0, 0 };
 }
 
 /* A number that the call leaves as it is would be none of the paper's. */
@@ -56,7 +56,7 @@ static reply found(section *call)
 {
     uint32_t number = UINT32_MAX, place = UINT32_MAX;
     bursztok_part part = call(ENTRIES(0, const uint8_t), &number, &place);
-    return (reply){ number, place, part.start, part.length };
+    return (reply){ number, place, part.start, part.length, 0 };
 }
 
 typedef bursztok_reading reader(const uint8_t *, size_t, int16_t *, size_t, int8_t *, size_t, uint16_t *, size_t);
@@ -64,11 +64,11 @@ typedef bursztok_reading reader(const uint8_t *, size_t, int16_t *, size_t, int8
 static reply read_by(reader *call)
 {
     bursztok_reading reading = call(ENTRIES(0, const uint8_t), ENTRIES(1, int16_t), ENTRIES(2, int8_t), ENTRIES(3, uint16_t));
-    return (reply){ reading.number, reading.place, reading.set, 0 };
+    return (reply){ reading.number, reading.place, reading.set, 0, reading.key };
 }
 
 /* `written` becomes the count of buffers that the call may write to. */
-static reply answer(uint32_t call, uint32_t set, bool sign, uint32_t *written)
+static reply answer(uint32_t call, uint32_t set, uint32_t key, bool sign, uint32_t *written)
 {
     switch (call) {
     case 1:
@@ -79,11 +79,11 @@ static reply answer(uint32_t call, uint32_t set, bool sign, uint32_t *written)
                                         ENTRIES(3, uint16_t)));
     case 3: {
         bursztok_response response =
-            bursztok_respond(set, ENTRIES(0, const int8_t), ENTRIES(1, const int8_t), ENTRIES(2, const uint16_t),
+            bursztok_respond(set, key, ENTRIES(0, const int8_t), ENTRIES(1, const int8_t), ENTRIES(2, const uint16_t),
                              ENTRIES(3, const int16_t), ENTRIES(4, const int16_t), ENTRIES(5, const uint16_t), sign,
                              ENTRIES(6, const uint64_t), ENTRIES(7, const uint64_t), ENTRIES(8, int16_t), ENTRIES(9, int8_t));
         *written = 2;
-        return (reply){ response.number, response.place, response.words, 0 };
+        return (reply){ response.number, response.place, response.words, 0, response.key };
     }
     case 4:
         *written = 1;
@@ -93,7 +93,7 @@ static reply answer(uint32_t call, uint32_t set, bool sign, uint32_t *written)
         return told(bursztok_compare(set, ENTRIES(0, const uint16_t), ENTRIES(1, const uint16_t)));
     case 6:
         *written = 1;
-        return told(bursztok_write(set, ENTRIES(0, const int16_t), ENTRIES(1, const int8_t), ENTRIES(2, const uint16_t),
+        return told(bursztok_write(set, key, ENTRIES(0, const int16_t), ENTRIES(1, const int8_t), ENTRIES(2, const uint16_t),
                                    ENTRIES(3, uint8_t)));
     case 7:
         *written = 3;
@@ -116,7 +116,7 @@ static reply answer(uint32_t call, uint32_t set, bool sign, uint32_t *written)
         return told(bursztok_compare_default_one(set, ENTRIES(0, const uint16_t), ENTRIES(1, const uint16_t)));
     case 14:
         *written = 1;
-        return told(bursztok_write_packed(set, ENTRIES(0, const int16_t), ENTRIES(1, const int8_t), ENTRIES(2, const uint16_t),
+        return told(bursztok_write_packed(set, key, ENTRIES(0, const int16_t), ENTRIES(1, const int8_t), ENTRIES(2, const uint16_t),
                                           ENTRIES(3, uint8_t)));
     case 15:
         *written = 3;
@@ -128,11 +128,11 @@ static reply answer(uint32_t call, uint32_t set, bool sign, uint32_t *written)
         *written = 1;
         return told(bursztok_unpack(ENTRIES(0, const uint8_t), ENTRIES(1, uint8_t)));
     case 18:
-        return (reply){ bursztok_kappa(set), 0, 0, 0 };
+        return (reply){ bursztok_kappa(set), 0, 0, 0, 0 };
     case 19:
-        return (reply){ bursztok_record_bytes(set), 0, 0, 0 };
+        return (reply){ bursztok_record_bytes(set), 0, 0, 0, 0 };
     case 20:
-        return (reply){ bursztok_packed_bytes(set), 0, 0, 0 };
+        return (reply){ bursztok_packed_bytes(set), 0, 0, 0, 0 };
     default:
         exit(1);
     }
@@ -153,7 +153,7 @@ int main(void)
                 return 1;
             take(lent[k].at, lent[k].bytes);
         }
-        reply answered = answer(asked.call, asked.set, asked.sign != 0, &written);
+        reply answered = answer(asked.call, asked.set, asked.key, asked.sign != 0, &written);
         give(&answered, sizeof answered);
         for (uint32_t k = 0; k < asked.buffers; k++) {
             if (k + written >= asked.buffers)

@@ -16,13 +16,13 @@ use Rattle.sets.specs.declared.Asked.the-variants.{Known, Unknown}
 use Rattle.sets.specs.Numbers.{listLimit, kappaOf, askedOf}
 use Rattle.sets.proofs.Alike.{kappa-within}
 use Rattle.answers.specs.declared.Outcome.{Outcome}
-use Rattle.answers.specs.Outcomes.{isDone, Filled, filled}
+use Rattle.answers.specs.Outcomes.{isDone, keyWith, Filled, filled}
 use Rattle.commitment.specs.Commitment.{commitment}
 use Rattle.signing.specs.Response.{Lent, Responded, responded}
 use Rattle.checking.specs.Checking.{claim}
 use Rattle.record_forms.specs.declared.Form.{Form}
 use Rattle.records.specs.Writer.{offered, writingOf}
-use Rattle.records.specs.Reader.{Found, found}
+use Rattle.records.specs.Reader.{buffers, Found, found}
 use Rattle.agreement.specs.Accepted.{fills, rebuilds, readRebuilds, sent, held, sentAfter}
 
 -- ---- vectors of different lengths differ
@@ -47,7 +47,7 @@ module _ (r : Bool) (o : Outcome) (x rounded : List ℕ) (w : Filled) (e : fille
 pub list-long : (l : List ℕ) (kappa : ℕ) (s : Set) → kappa ≡ kappaOf s → length l ≡ listLimit → kappa ≡ length (take kappa l)
 list-long l kappa s e f = sym (length-take-le kappa l (omega (arith, kappa-within s)))
 
-module _ (a rounded : List ℕ) (r : Bool) (o : Outcome) (n : ℕ) (x y : List ℤ) (k : List ℕ) (w : Found) (e : found o n x y k ≡ w) (d : r ≡ isDone o) where
+module _ (a rounded : List ℕ) (r : Bool) (o : Outcome) (n key : ℕ) (x y : List ℤ) (k : List ℕ) (w : Found) (e : found o n key (buffers x y k) ≡ w) (d : r ≡ isDone o) where
   pub not-read : not r ≡ true → false ≡ readRebuilds a rounded w
   unfolding readRebuilds
   not-read t = rw (← e, failed {r = r} {s = isDone o} d t)
@@ -63,17 +63,18 @@ module _ (a rounded : List ℕ) (r : Bool) (o : Outcome) (n : ℕ) (x y : List �
     read-as s h kappa i b f = rw (← e, passed {r = r} {s = isDone o} d t, sym g ∙ h, ← i) f
 
 -- ---- the signer
-module _ (form : Form) (set : ℕ) (c : Lent) (out before : List ℕ) (r : Bool) (o : Outcome) (count : ℕ) (z1 z2 : List ℤ) (w : Responded) (e : responded o count z1 z2 ≡ w)
+module _ (form : Form) (set : ℕ) (c : Lent) (out before : List ℕ) (r : Bool) (o : Outcome) (count key : ℕ) (z1 z2 : List ℤ) (w : Responded) (e : responded o count key z1 z2 ≡ w)
     (d : r ≡ isDone o) where
-  pub not-given : not r ≡ true → sent o count out before ≡ sentAfter form set c (held out before) w
+  pub not-given : not r ≡ true → sent o count key out before ≡ sentAfter form set c (held out before) w
   unfolding sentAfter
   not-given t = rw (← e, failed {r = r} {s = isDone o} d t)
 
   module _ (t : not r ≡ false) (p : Bool) (q : Outcome) (rounded : List ℕ) (f : filled q rounded ≡ commitment set (c .a) (c .y1) (c .y2) before) (g : p ≡ isDone q) where
-    pub not-committed : not p ≡ true → sent q count out rounded ≡ sentAfter form set c (held out before) w
+    pub not-committed : not p ≡ true → sent q count 0 out rounded ≡ sentAfter form set c (held out before) w
     unfolding sentAfter
     not-committed u = rw (← e, passed {r = r} {s = isDone o} d t, ← f, failed {r = p} {s = isDone q} g u)
 
-    pub recorded-as : not p ≡ false → (v : Outcome) (after : List ℕ) → filled v after ≡ writingOf form (offered set z1 z2 (c .list)) out → sent v count after rounded ≡ sentAfter form set c (held out before) w
+    pub recorded-as : not p ≡ false → (v : Outcome) (after : List ℕ) → filled v after ≡ writingOf form (offered set key z1 z2 (c .list)) out
+        → (back : ℕ) → back ≡ keyWith v key → sent v count back after rounded ≡ sentAfter form set c (held out before) w
     unfolding sentAfter
-    recorded-as u v after h = rw (← e, passed {r = r} {s = isDone o} d t, ← f, passed {r = p} {s = isDone q} g u, ← h)
+    recorded-as u v after h back i = rw (← e, passed {r = r} {s = isDone o} d t, ← f, passed {r = p} {s = isDone q} g u, ← h, i)

@@ -5,7 +5,7 @@ ghost use lib.ListN.{replicate};
 ghost use Rattle.laws.specs.Lists.{same};
 ghost use Rattle.sets.specs.Numbers.{dimension};
 ghost use Rattle.checking.specs.Checking.{claim};
-ghost use Rattle.agreement.specs.Accepted.{rebuilds as rebuildsTo, accepted, sent, held, sending};
+ghost use Rattle.agreement.specs.Accepted.{rebuilds as rebuildsTo, accepted, keyRead, sent, held, sending};
 use answers::Outcome;
 use record_forms::Form;
 use sets::Asked;
@@ -34,6 +34,17 @@ pub fn accepts(form: Form, a: &[u16], rec: &[u8], committed: &[u16]) -> bool
             rebuilds(a, reading.set, &z1, &z2, &list[..kappa], committed)
         }
     }
+}
+
+// Which key signed: the key number that a record states, 0 where the reader refuses it.
+pub fn key_read(form: Form, rec: &[u8]) -> u32
+    ensures { λ r. ⌜ r ≡ keyRead form (now (rec .entry)) ⌝ }
+{
+    let mut z1 = [0i16; Set::DIMENSION];
+    let mut z2 = [0i8; Set::DIMENSION];
+    let mut list = [0u16; Set::LIST_LIMIT];
+    let reading = records::read(form, rec, &mut z1, &mut z2, &mut list);
+    reading.key
 }
 
 // The comparison of the list with itself, and the rebuild.
@@ -68,6 +79,7 @@ fn is_same(x: &[u16], y: &[u16]) -> bool
 pub fn send(
     form: Form,
     set: u32,
+    key: u32,
     f: &[i8],
     g: &[i8],
     a: &[u16],
@@ -80,8 +92,8 @@ pub fn send(
     out: &mut [u8],
     committed: &mut [u16],
 ) -> Response
-    ensures { λ r. ⌜ sent (r .outcome) (r .words) (now (out .exit)) (now (committed .exit))
-        ≡ sending form set (record {
+    ensures { λ r. ⌜ sent (r .outcome) (r .words) (r .key) (now (out .exit)) (now (committed .exit))
+        ≡ sending form set key (record {
           f = now (f .entry);
           g = now (g .entry);
           a = now (a .entry);
@@ -100,6 +112,7 @@ pub fn send(
     let mut z2 = [0i8; Set::DIMENSION];
     let response = signing::respond(
         set,
+        key,
         f,
         g,
         a,
@@ -121,10 +134,13 @@ pub fn send(
         return Response {
             outcome: refusal,
             words: response.words,
+            key: 0,
         };
     }
+    let written = records::write(form, set, response.key, &z1, &z2, list, out);
     Response {
-        outcome: records::write(form, set, &z1, &z2, list, out),
+        outcome: written,
         words: response.words,
+        key: written.key_with(response.key),
     }
 }

@@ -1,5 +1,6 @@
-// Signer and checker. A line for each case: what is lent, the number that the response answers and the words that it took; where a signature is given out, what
-// `accepts` says of its record, plain, sent packed, packed and unpacked again. Then records, keys and vectors that were changed.
+// Signer and checker. A line for each case: what is lent, the number that the response answers, the words that it took and the key number that comes back; where a
+// signature is given out, what `accepts` says of its record, plain, sent packed, packed and unpacked again, and the key number that is read from it. Then records,
+// keys and vectors that were changed.
 ghost use mathlib.Core.Path.{_≡_};
 ghost use lib.ListN.{length};
 ghost use Rattle.sets.specs.Numbers.{dimension};
@@ -14,6 +15,9 @@ use record_forms::Form;
 use sets::Asked;
 use sets::Set;
 use signing::Response;
+
+// The key number that is lent. Its bytes are 16, 32, 48, 64.
+const KEY: u32 = 1076895760;
 
 // What is lent: a set and the set whose list it is, kappa places from 0 on; a key of that set's counts, f turned at odd places, g too where `turned` says so, and
 // a = (2g + 1) / f, so much more at place 5; every coefficient of each mask; the sign bit; every threshold; the count of words, all 0.
@@ -234,6 +238,7 @@ fn answered(c: Case) {
     let outcome = r.outcome;
     number(b": response ", outcome.number() as u64);
     number(b", words taken ", r.words as u64);
+    number(b", key number ", r.key as u64);
     if outcome.is_done() {
         let a = public_key(c);
         let total = total_of(Form::Plain, c.set);
@@ -290,6 +295,7 @@ fn sent(form: Form, c: Case, rec: &mut [u8], committed: &mut [u16]) -> Response 
     agreement::send(
         form,
         c.set,
+        KEY,
         &f,
         &g,
         &a,
@@ -348,6 +354,8 @@ fn told(text: &[u8], form: Form, a: &[u16], rec: &[u8], committed: &[u16]) {
     } else {
         print(b"no");
     }
+    number(b" (key ", agreement::key_read(form, rec) as u64);
+    print(b")");
 }
 
 // ---- what was changed
@@ -432,7 +440,7 @@ fn damaged(a: &[u16], rec: &[u8], total: usize, committed: &[u16])
     others(a, first_bytes(rec, total), committed);
 }
 
-// Sets 1 and 2 differ in their limits alone: with the set of 1 made 2 the record is still accepted.
+// Sets 1 and 2 differ in their limits alone: with the set of 1 made 2 the record is still accepted. Byte 23 is the highest of the key number.
 fn header_bytes(a: &[u16], rec: &[u8], total: usize, committed: &[u16])
     requires { ⌜ length (now rec) ≡ recordLimitOf Plain ⌝ }
 {

@@ -14,23 +14,23 @@ module _ {set a y1 y2 out rests rest : Type 0} where
   abbrev pub with-rests-rests : set × (a × (y1 × (y2 × (out × (rests × rest))))) → rests
   with-rests-rests lent = lent .1 .1 .1 .1 .1 .0
 
--- respond(set, f, g, a, y1, y2, list, sign, thresholds, words, z1, z2)
-module _ {set f g a y1 y2 list sign thresholds words z1 z2 rest : Type 0} where
-  abbrev pub response-z1 : set × (f × (g × (a × (y1 × (y2 × (list × (sign × (thresholds × (words × (z1 × (z2 × rest))))))))))) → z1
-  response-z1 lent = lent .1 .1 .1 .1 .1 .1 .1 .1 .1 .1 .0
+-- respond(set, key, f, g, a, y1, y2, list, sign, thresholds, words, z1, z2)
+module _ {set key f g a y1 y2 list sign thresholds words z1 z2 rest : Type 0} where
+  abbrev pub response-z1 : set × (key × (f × (g × (a × (y1 × (y2 × (list × (sign × (thresholds × (words × (z1 × (z2 × rest)))))))))))) → z1
+  response-z1 lent = lent .1 .1 .1 .1 .1 .1 .1 .1 .1 .1 .1 .0
 
-  abbrev pub response-z2 : set × (f × (g × (a × (y1 × (y2 × (list × (sign × (thresholds × (words × (z1 × (z2 × rest))))))))))) → z2
-  response-z2 lent = lent .1 .1 .1 .1 .1 .1 .1 .1 .1 .1 .1 .0
+  abbrev pub response-z2 : set × (key × (f × (g × (a × (y1 × (y2 × (list × (sign × (thresholds × (words × (z1 × (z2 × rest)))))))))))) → z2
+  response-z2 lent = lent .1 .1 .1 .1 .1 .1 .1 .1 .1 .1 .1 .1 .0
 
 -- rebuild(set, a, z1, z2, list, out)
 module _ {set a z1 z2 list out rest : Type 0} where
   abbrev pub rebuild-out : set × (a × (z1 × (z2 × (list × (out × rest))))) → out
   rebuild-out lent = lent .1 .1 .1 .1 .1 .0
 
--- write(set, z1, z2, list, out)
-module _ {set z1 z2 list out rest : Type 0} where
-  abbrev pub write-out : set × (z1 × (z2 × (list × (out × rest)))) → out
-  write-out lent = lent .1 .1 .1 .1 .0
+-- write(set, key, z1, z2, list, out)
+module _ {set key z1 z2 list out rest : Type 0} where
+  abbrev pub write-out : set × (key × (z1 × (z2 × (list × (out × rest))))) → out
+  write-out lent = lent .1 .1 .1 .1 .1 .0
 
 -- read(rec, z1, z2, list)
 module _ {rec z1 z2 list rest : Type 0} where
@@ -43,10 +43,10 @@ module _ {rec z1 z2 list rest : Type 0} where
   abbrev pub read-list : rec × (z1 × (z2 × (list × rest))) → list
   read-list lent = lent .1 .1 .1 .0
 
--- a writer(form, set, z1, z2, list, out)
-module _ {form set z1 z2 list out rest : Type 0} where
-  abbrev pub writer-out : form × (set × (z1 × (z2 × (list × (out × rest))))) → out
-  writer-out lent = lent .1 .1 .1 .1 .1 .0
+-- a writer(form, set, key, z1, z2, list, out)
+module _ {form set key z1 z2 list out rest : Type 0} where
+  abbrev pub writer-out : form × (set × (key × (z1 × (z2 × (list × (out × rest)))))) → out
+  writer-out lent = lent .1 .1 .1 .1 .1 .1 .0
 
 -- a reader(form, rec, z1, z2, list)
 module _ {form rec z1 z2 list rest : Type 0} where

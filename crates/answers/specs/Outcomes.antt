@@ -55,6 +55,10 @@ isDone o = eqb (numberOf o) 0
 abbrev pub unless {ℓ} : {A : Type ℓ} → Outcome → (Outcome → A) → A → A
 unless o answer next = must (isDone o) (answer o) next
 
+-- the key number that comes back with an outcome: "a refused call answers 0" (02, C-13)
+abbrev pub keyWith : Outcome → ℕ → ℕ
+keyWith o key = unless o (λ refusal. 0) key
+
 -- what follows for the set that was asked for, where there is one
 abbrev pub forSet {ℓ} : {A : Type ℓ} → Asked → A → (Set → A) → A
 forSet Unknown refusal next = refusal

@@ -2,7 +2,7 @@
 pub mod sizes;
 
 ghost use mathlib.Core.Path.{_≡_};
-ghost use Rattle.answers.specs.Outcomes.{numberOf, placeOf, isDone};
+ghost use Rattle.answers.specs.Outcomes.{numberOf, placeOf, isDone, keyWith};
 
 pub enum Outcome {
     Done,
@@ -74,5 +74,12 @@ impl Outcome {
         ensures { λ r. ⌜ r ≡ isDone self ⌝ }
     {
         self.number() == 0
+    }
+
+    // The key number that comes back: 0 with a refusal (02, C-13).
+    pub fn key_with(self, key: u32) -> u32
+        ensures { λ r. ⌜ r ≡ keyWith self key ⌝ }
+    {
+        if self.is_done() { key } else { 0 }
     }
 }

@@ -18,7 +18,7 @@ use Rattle.record_forms.specs.declared.Header.{Header}
 use Rattle.record_forms.specs.declared.Header.the-variants.{States, Malformed}
 use Rattle.record_forms.specs.Headers.{headerIn, opened}
 use Rattle.record_forms.specs.Sections.{fetched, partOf, sectionOf}
-use Rattle.records.specs.Reader.{Found, found}
+use Rattle.records.specs.Reader.{buffers, Found, found}
 use Rattle.bursztok.specs.declared.Answer.{Answer}
 use Rattle.bursztok.specs.declared.Response.{Response}
 use Rattle.bursztok.specs.declared.Reading.{Reading}
@@ -35,11 +35,12 @@ module _ (r : Answer) (o : Outcome) (l : List ℕ) (p : r ≡ answerOf o) where
 pub rests-left-at : (r : Answer) (o : Outcome) (x : List ℕ) (y : List ℤ) (w : WithRests) → r ≡ answerOf o → withRests o x y ≡ w → leftWithRests r x y ≡ leftWithRestsBy w
 rests-left-at r o x y w p e = ap (λ (s : Answer). leftWithRests s x y) p ∙ ap leftWithRestsBy e
 
-pub replied-at : (r : Response) (o : Outcome) (n : ℕ) (x y : List ℤ) (w : Responded) → r ≡ responseWith o n → responded o n x y ≡ w → replied r x y ≡ repliedBy w
-replied-at r o n x y w p e = ap (λ (s : Response). replied s x y) p ∙ ap repliedBy e
+pub replied-at : (r : Response) (o : Outcome) (n key : ℕ) (x y : List ℤ) (w : Responded) → r ≡ responseWith o n key → responded o n key x y ≡ w → replied r x y ≡ repliedBy w
+replied-at r o n key x y w p e = ap (λ (s : Response). replied s x y) p ∙ ap repliedBy e
 
-pub stored-at : (r : Reading) (o : Outcome) (n : ℕ) (x y : List ℤ) (l : List ℕ) (w : Found) → r ≡ readingWith o n → found o n x y l ≡ w → stored r x y l ≡ storedBy w
-stored-at r o n x y l w p e = ap (λ (s : Reading). stored s x y l) p ∙ ap storedBy e
+pub stored-at : (r : Reading) (o : Outcome) (n key : ℕ) (x y : List ℤ) (l : List ℕ) (w : Found) → r ≡ readingWith o n key → found o n key (buffers x y l) ≡ w
+    → stored r x y l ≡ storedBy w
+stored-at r o n key x y l w p e = ap (λ (s : Reading). stored s x y l) p ∙ ap storedBy e
 
 -- a section starts at its offset, counted from where the record lies, and at 0 where the header is malformed
 module _ (from to : ℕ) (at : ℕ × ℕ) (rec : List ℕ) (p : ℕ × ℕ) (bytes : List ℕ) (n m : ℕ) where

@@ -63,7 +63,7 @@ pub commitment-with-rests-determined : (κs : Lfts 5) (a : _) (r r′ : _) (s s�
     → (r ≡ r′) × (now (with-rests-out s) ≡ now (with-rests-out s′)) × (now (with-rests-rests s) ≡ now (with-rests-rests s′))
 commitment-with-rests-determined κs a r r′ s s′ p q = one-with-rests _ p q
 
--- the answer with the count of words, and both output vectors
+-- the answer with the count of words and the key number, and both output vectors
 pub respond-determined : (κs : Lfts 10) (a : _) (r r′ : _) (s s′ : _) → respond.Post κs a r s → respond.Post κs a r′ s′
     → (r ≡ r′) × (now (response-z1 s) ≡ now (response-z1 s′)) × (now (response-z2 s) ≡ now (response-z2 s′))
 respond-determined κs a r r′ s s′ p q = one-replied _ p q
@@ -87,7 +87,7 @@ pub write-determined : (κs : Lfts 4) (a : _) (r r′ : _) (s s′ : _) → writ
     → (r ≡ r′) × (now (write-out s) ≡ now (write-out s′))
 write-determined κs a r r′ s s′ p q = one-left _ p q
 
--- the answer with the set, and the three buffers
+-- the answer with the set and the key number, and the three buffers
 pub read-determined : (κs : Lfts 4) (a : _) (r r′ : _) (s s′ : _) → read.Post κs a r s → read.Post κs a r′ s′
     → (r ≡ r′) × (now (read-z1 s) ≡ now (read-z1 s′)) × (now (read-z2 s) ≡ now (read-z2 s′)) × (now (read-list s) ≡ now (read-list s′))
 read-determined κs a r r′ s s′ p q = one-stored _ p q

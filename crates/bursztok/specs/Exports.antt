@@ -33,25 +33,25 @@ pub data LeftWithRests : Type 0 where
 abbrev pub leftWithRestsBy : WithRests → LeftWithRests
 leftWithRestsBy (withRests o digits rests) = leftWithRests (answerOf o) digits rests
 
-abbrev pub responseWith : Outcome → ℕ → Response
-responseWith o words = record { number = numberOf o; place = placeOf o; words = words }
+abbrev pub responseWith : Outcome → ℕ → ℕ → Response
+responseWith o words key = record { number = numberOf o; place = placeOf o; words = words; key = key }
 
 -- the response's answer, and the contents of the vectors z1 and z2 dagger
 pub data Replied : Type 0 where
   replied : Response → List ℤ → List ℤ → Replied
 
 abbrev pub repliedBy : Responded → Replied
-repliedBy (responded o words z1 z2) = replied (responseWith o words) z1 z2
+repliedBy (responded o words key z1 z2) = replied (responseWith o words key) z1 z2
 
-abbrev pub readingWith : Outcome → ℕ → Reading
-readingWith o set = record { number = numberOf o; place = placeOf o; set = set }
+abbrev pub readingWith : Outcome → ℕ → ℕ → Reading
+readingWith o set key = record { number = numberOf o; place = placeOf o; set = set; key = key }
 
 -- the reader's answer, and the contents of the buffers of z1, z2 dagger and the list
 pub data Stored : Type 0 where
   stored : Reading → List ℤ → List ℤ → List ℕ → Stored
 
 abbrev pub storedBy : Found → Stored
-storedBy (found o set z1 z2 list) = stored (readingWith o set) z1 z2 list
+storedBy (found o set key b) = stored (readingWith o set key) (b .z1) (b .z2) (b .list)
 
 -- a part of the lent record, and the contents of the lent numbers
 pub data Located : Type 0 where

@@ -25,20 +25,22 @@ pub struct Answer {
     pub place: u32,
 }
 
-// With the count of words that the draw took.
+// With the count of words that the draw took, and the key number: 0 when the response refuses (02, C-13).
 #[repr(C)]
 pub struct Response {
     pub number: u32,
     pub place: u32,
     pub words: u64,
+    pub key: u32,
 }
 
-// The set is 0 when the reader refuses.
+// The set and the key number are 0 when the reader refuses.
 #[repr(C)]
 pub struct Reading {
     pub number: u32,
     pub place: u32,
     pub set: u32,
+    pub key: u32,
 }
 
 // A part of the lent record.
@@ -86,6 +88,7 @@ pub extern "C" fn bursztok_commitment_with_rests(
 #[no_mangle]
 pub extern "C" fn bursztok_respond(
     set: u32,
+    key: u32,
     f: &[i8],
     g: &[i8],
     a: &[u16],
@@ -99,7 +102,7 @@ pub extern "C" fn bursztok_respond(
     z2: &mut [i8],
 ) -> Response
     ensures { λ r. ⌜ replied r (now (z1 .exit)) (now (z2 .exit))
-        ≡ repliedBy (response set (record {
+        ≡ repliedBy (response set key (record {
           f = now (f .entry);
           g = now (g .entry);
           a = now (a .entry);
@@ -113,7 +116,21 @@ pub extern "C" fn bursztok_respond(
           z2 = now (z2 .entry);
         })) ⌝ }
 {
-    respond_answer(signing::respond(set, f, g, a, y1, y2, list, sign, thresholds, words, z1, z2))
+    respond_answer(signing::respond(
+        set,
+        key,
+        f,
+        g,
+        a,
+        y1,
+        y2,
+        list,
+        sign,
+        thresholds,
+        words,
+        z1,
+        z2,
+    ))
 }
 
 #[no_mangle]
@@ -162,14 +179,15 @@ pub extern "C" fn bursztok_compare_default_one(set: u32, claimed: &[u16], hashed
 #[no_mangle]
 pub extern "C" fn bursztok_write(
     set: u32,
+    key: u32,
     z1: &[i16],
     z2: &[i8],
     list: &[u16],
     out: &mut [u8],
 ) -> Answer
-    ensures { λ r. ⌜ left r (now (out .exit)) ≡ leftBy (writingOf Plain (offered set (now (z1 .entry)) (now (z2 .entry)) (now (list .entry))) (now (out .entry))) ⌝ }
+    ensures { λ r. ⌜ left r (now (out .exit)) ≡ leftBy (writingOf Plain (offered set key (now (z1 .entry)) (now (z2 .entry)) (now (list .entry))) (now (out .entry))) ⌝ }
 {
-    answered(records::write(Form::Plain, set, z1, z2, list, out))
+    answered(records::write(Form::Plain, set, key, z1, z2, list, out))
 }
 
 #[no_mangle]
@@ -188,14 +206,15 @@ pub extern "C" fn bursztok_read(
 #[no_mangle]
 pub extern "C" fn bursztok_write_packed(
     set: u32,
+    key: u32,
     z1: &[i16],
     z2: &[i8],
     list: &[u16],
     out: &mut [u8],
 ) -> Answer
-    ensures { λ r. ⌜ left r (now (out .exit)) ≡ leftBy (writingOf Packed (offered set (now (z1 .entry)) (now (z2 .entry)) (now (list .entry))) (now (out .entry))) ⌝ }
+    ensures { λ r. ⌜ left r (now (out .exit)) ≡ leftBy (writingOf Packed (offered set key (now (z1 .entry)) (now (z2 .entry)) (now (list .entry))) (now (out .entry))) ⌝ }
 {
-    answered(records::write(Form::Packed, set, z1, z2, list, out))
+    answered(records::write(Form::Packed, set, key, z1, z2, list, out))
 }
 
 #[no_mangle]
@@ -258,24 +277,26 @@ fn answered(outcome: Outcome) -> Answer
 }
 
 fn respond_answer(r: signing::Response) -> Response
-    ensures { λ s. ⌜ s ≡ responseWith (r .outcome) (r .words) ⌝ }
+    ensures { λ s. ⌜ s ≡ responseWith (r .outcome) (r .words) (r .key) ⌝ }
 {
     let o = r.outcome;
     Response {
         number: o.number(),
         place: o.place(),
         words: r.words as u64,
+        key: r.key,
     }
 }
 
 fn read_answer(r: records::Reading) -> Reading
-    ensures { λ s. ⌜ s ≡ readingWith (r .outcome) (r .set) ⌝ }
+    ensures { λ s. ⌜ s ≡ readingWith (r .outcome) (r .set) (r .key) ⌝ }
 {
     let o = r.outcome;
     Reading {
         number: o.number(),
         place: o.place(),
         set: r.set,
+        key: r.key,
     }
 }
 

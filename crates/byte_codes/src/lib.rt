@@ -3,7 +3,7 @@ ghost use mathlib.Core.Path.{_≡_};
 ghost use mathlib.Core.List.{map};
 ghost use Prim.Native.Nat.{_+_, _*_, _/_, _%_, _<_};
 ghost use lib.ListN.{length, getD, set};
-ghost use Rattle.byte_codes.specs.Bytes.{packed, unpacked, complement, fromComplement};
+ghost use Rattle.byte_codes.specs.Bytes.{bytesOf, numberIn, packed, unpacked, complement, fromComplement};
 
 // The two bytes of a number, at a place and the one after it.
 pub fn put_number(out: &mut [u8], at: usize, x: u16)
@@ -20,6 +20,26 @@ pub fn number_at(bytes: &[u8], at: usize) -> u16
     ensures { λ r. ⌜ r ≡ getD (now (bytes .entry)) at 0 + 256 * getD (now (bytes .entry)) (at + 1) 0 ⌝ }
 {
     (bytes[at] as u16) + 256 * (bytes[at + 1] as u16)
+}
+
+// The four bytes of a number, and the number that four bytes make.
+pub fn put_number32(out: &mut [u8], x: u32)
+    requires { ⌜ length (now out) ≡ 4 ⌝ }
+    ensures { λ _. ⌜ now (out .exit) ≡ bytesOf 4 x ⌝ }
+{
+    out[0] = (x % 256) as u8;
+    out[1] = (x / 256 % 256) as u8;
+    out[2] = (x / 256 / 256 % 256) as u8;
+    out[3] = (x / 256 / 256 / 256 % 256) as u8;
+}
+
+pub fn number32_in(bytes: &[u8]) -> u32
+    requires { ⌜ length (now bytes) ≡ 4 ⌝ }
+    ensures { λ r. ⌜ r ≡ numberIn (now (bytes .entry)) ⌝ }
+{
+    let low = number_at(bytes, 0) as u32;
+    let high = number_at(bytes, 2) as u32;
+    low + 65536 * high
 }
 
 // Two's complement in 16 and in 8 binary digits, and back.

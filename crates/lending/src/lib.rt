@@ -87,6 +87,7 @@ pub fn commitment_with_rests(
 
 pub fn respond(
     set: u32,
+    key: u32,
     f: &[i8],
     g: &[i8],
     a: &[u16],
@@ -105,6 +106,7 @@ pub fn respond(
     let z2_lent = least(z2_count, z2.len());
     bursztok::bursztok_respond(
         set,
+        key,
         f,
         g,
         a,
@@ -149,6 +151,7 @@ pub fn rebuild_default_one(
 pub fn write(
     packed: bool,
     set: u32,
+    key: u32,
     z1: &[i16],
     z2: &[i8],
     list: &[u16],
@@ -156,14 +159,22 @@ pub fn write(
     count: usize,
 ) -> Answer {
     let lent = least(count, out.len());
-    written(packed, set, z1, z2, list, &mut out[..lent])
+    written(packed, set, key, z1, z2, list, &mut out[..lent])
 }
 
-fn written(packed: bool, set: u32, z1: &[i16], z2: &[i8], list: &[u16], out: &mut [u8]) -> Answer {
+fn written(
+    packed: bool,
+    set: u32,
+    key: u32,
+    z1: &[i16],
+    z2: &[i8],
+    list: &[u16],
+    out: &mut [u8],
+) -> Answer {
     if packed {
-        return bursztok::bursztok_write_packed(set, z1, z2, list, out);
+        return bursztok::bursztok_write_packed(set, key, z1, z2, list, out);
     }
-    bursztok::bursztok_write(set, z1, z2, list, out)
+    bursztok::bursztok_write(set, key, z1, z2, list, out)
 }
 
 pub fn read(

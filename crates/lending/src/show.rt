@@ -110,7 +110,8 @@ pub fn response(text: &[u8], r: Response, z1: &[i16], z2: &[i16]) {
     );
     print(b", ");
     number(r.words);
-    print(b" words");
+    print(b" words, key number ");
+    number(r.key as u64);
     if r.number == 0 {
         entries(z1, z2);
     } else {

@@ -37,13 +37,14 @@ use Rattle.choices.proofs.Pairs.{Sized}
 use Rattle.choices.proofs.Parity.{choices-odd, choices-even}
 use Rattle.choices.proofs.Product.{choices-carries}
 use Rattle.masking.specs.Masking.{masked, daggers}
-use Rattle.signing.specs.Response.{Lent, secret, responded, responseFor, response}
+use Rattle.signing.specs.Response.{Lent, secret, responded, responseFor, responding, response}
+use Rattle.signing.proofs.Numbered.{key-done, unnumbered-of}
 use Rattle.signing.proofs.Ways.{are-sized}
 use Rattle.checking.specs.Checking.{claim, marks, rebuilt, rebuild, comparison}
 use Rattle.checking.proofs.Marks.{length-marks, getD-marks}
 use Rattle.record_forms.specs.declared.Form.{Form}
 use Rattle.record_forms.specs.Forms.{totalOf}
-use Rattle.records.specs.Signatures.{signature, recordOf, refusalOf}
+use Rattle.records.specs.Signatures.{signature, recordOf, refusalFor}
 use Rattle.records.specs.Writer.{putTo, recordedTo, writingFor, offered, writingOf}
 use Rattle.promises.specs.Demands.{ResponseLength, GivenOutIsAccepted, ReachesTheDraw, Demand3}
 use Rattle.promises.proofs.Keys.{key-carries, key-sized, passing, second-parity}
@@ -169,17 +170,17 @@ module _ (set : ℕ) (s : Set) (known : askedOf set ≡ Known s) (a : List ℕ) 
       rw (known, sized-yes a la, sized-yes z1 lz1, sized-yes z2 lz2, sized-yes out lo, residues, proper, rule)
 
 -- the writer, where nothing is to be refused
-writes-done : (form : Form) (set : ℕ) (s : Set) (z1 z2 : List ℤ) (l out : List ℕ) → askedOf set ≡ Known s → length z1 ≡ dimension → length z2 ≡ dimension
+writes-done : (form : Form) (set key : ℕ) (s : Set) (z1 z2 : List ℤ) (l out : List ℕ) → askedOf set ≡ Known s → length z1 ≡ dimension → length z2 ≡ dimension
     → properList s l ≡ true → lengthRule s z1 z2 ≡ Done → totalOf form s ≤ length out
-    → writingOf form (offered set z1 z2 l) out ≡ filled Done (recordOf form (signature s z1 z2 l) ++ drop (totalOf form s) out)
-unfolding writingOf writingFor recordedTo putTo refusalOf
-writes-done form set s z1 z2 l out known l1 l2 proper rule room = rw (known, eq-eqb _ _ l1, eq-eqb _ _ l2, proper, rule, le-leb _ _ room)
+    → writingOf form (offered set key z1 z2 l) out ≡ filled Done (recordOf form (signature s key z1 z2 l) ++ drop (totalOf form s) out)
+unfolding writingOf writingFor recordedTo putTo refusalFor
+writes-done form set key s z1 z2 l out known l1 l2 proper rule room = rw (known, eq-eqb _ _ l1, eq-eqb _ _ l2, proper, rule, le-leb _ _ room)
 
 -- ---- the second sentence
 pub given-out-is-accepted : GivenOutIsAccepted
-given-out-is-accepted set c o count z1 z2 before old e zero lb lo =
-    let done : response set c ≡ responded Done count z1 z2 = e ∙ ap (λ (p : Outcome). responded p count z1 z2) (zero-is o zero) in
-    let given = given-out c count z1 z2 set done in
+given-out-is-accepted set key c o count back z1 z2 before old e zero lb lo =
+    let done : response set key c ≡ responded Done count back z1 z2 = e ∙ ap (λ (p : Outcome). responded p count back z1 z2) (zero-is o zero) in
+    let given = given-out c count z1 z2 set key back done in
     let s = given .0 in
     let known = given .1 in
     let passed = given .2 in
@@ -198,22 +199,25 @@ given-out-is-accepted set c o count z1 z2 before old e zero lb lo =
       ),
     )
 
--- the writer makes its record
-pub given-out-is-written : (form : Form) (set : ℕ) (s : Set) (c : Lent) (o : Outcome) (count : ℕ) (z1 z2 : List ℤ) (out : List ℕ) → response set c ≡ responded o count z1 z2
+-- the writer makes its record, with the key number that was lent
+pub given-out-is-written : (form : Form) (set key : ℕ) (s : Set) (c : Lent) (o : Outcome) (count back : ℕ) (z1 z2 : List ℤ) (out : List ℕ)
+    → response set key c ≡ responded o count back z1 z2
     → numberOf o ≡ 0 → askedOf set ≡ Known s → totalOf form s ≤ length out
-    → writingOf form (offered set z1 z2 (c .list)) out ≡ filled Done (recordOf form (signature s z1 z2 (c .list)) ++ drop (totalOf form s) out)
-given-out-is-written form set s c o count z1 z2 out e zero known room =
-    let given = given-out c count z1 z2 set (e ∙ ap (λ (p : Outcome). responded p count z1 z2) (zero-is o zero)) in
+    → writingOf form (offered set back z1 z2 (c .list)) out ≡ filled Done (recordOf form (signature s key z1 z2 (c .list)) ++ drop (totalOf form s) out)
+given-out-is-written form set key s c o count back z1 z2 out e zero known room =
+    let given = given-out c count z1 z2 set key back (e ∙ ap (λ (p : Outcome). responded p count back z1 z2) (zero-is o zero)) in
+    let number : back ≡ key = unnumbered-of set key c o count back z1 z2 e .1 ∙ key-done o key zero in
     let own : given .0 ≡ s = let asked = given .1 in cc in
     let passed = given .2 in
     let sent = given .3 in
-    writes-done form set s z1 z2 (c .list) out known (ap length (sent .first) ∙ z-first (given .0) c passed) (ap length (sent .dagger) ∙ daggers-512 (given .0) c passed)
-    (rw own at (passed .list)) (rw own at (sent .rule)) room
+    rw number
+    (writes-done form set key s z1 z2 (c .list) out known (ap length (sent .first) ∙ z-first (given .0) c passed) (ap length (sent .dagger) ∙ daggers-512 (given .0) c passed)
+    (rw own at (passed .list)) (rw own at (sent .rule)) room)
 
 -- ---- the premises of both
 pub reaches-the-draw : ReachesTheDraw
-unfolding response responseFor
-reaches-the-draw set s c h b =
+unfolding response responding responseFor
+reaches-the-draw set key′ s c h b =
     let key = passing set s c (h .asked) (h .key) in
     let long =
     are-sized c
@@ -229,8 +233,8 @@ same-list set s l known proper = rw (known, proper, is-same l)
 pub demand-3 : Demand3
 demand-3 set s c before old h b lb lo = (
   response-length set s c (h .asked) (h .key) (h .list),
-  λ o count z1 z2 e zero.
-      let accepted = given-out-is-accepted set c o count z1 z2 before old e zero lb lo in
+  λ key o count back z1 z2 e zero.
+      let accepted = given-out-is-accepted set key c o count back z1 z2 before old e zero lb lo in
       let own : accepted .0 ≡ s = the-set (accepted .0) s (sym (accepted .1) ∙ h .asked) in
       (same-list set s (c .list) (h .asked) (h .list), rw own at (accepted .2), rw own at (accepted .3)),
 )

@@ -28,10 +28,11 @@ use Rattle.keys.proofs.Ranges.{f-small, g-small, a-residues}
 use Rattle.keys.proofs.Counts.{counts-short, counts-length, proper-by-relation, improper-by-counts}
 use Rattle.choices.specs.Choices.{choices}
 use Rattle.commitment.specs.Commitment.{areMasks, tested, commitment, Outputs, WithRests, withRests, commitmentWithRests}
-use Rattle.signing.specs.Response.{Lent, secret, Drawing, drawing, Responded, responded, drawn, allSized, early, responseFor, response}
+use Rattle.signing.specs.Response.{Lent, secret, Drawing, drawing, Unnumbered, unnumbered, drawn, allSized, early, responseFor, responding}
+use Rattle.signing.proofs.Numbered.{unnumbered-of}
 use Rattle.checking.specs.Checking.{Claim, rebuild, comparison}
 use Rattle.record_forms.specs.Sections.{Fetched, fetched, sectionOf}
-use Rattle.records.specs.Signatures.{Signature, refusalOf}
+use Rattle.records.specs.Signatures.{Signature, refusalFor, refusalOf}
 use Rattle.record_forms.specs.declared.Form.{Form}
 use Rattle.records.specs.Writer.{putTo, recordedTo, writingFor, Offered, writingOf}
 use Rattle.records.specs.Reader.{Found, found, Buffers, readingFor, readingOf}
@@ -39,7 +40,7 @@ use Rattle.records.specs.Conversion.{conversionOf}
 use Rattle.promises.specs.Counts.{Counts, KeyPasses, KeyLength, KeyWithinLimit, largestFirst, LimitReached, NoKeyTooLong}
 use Rattle.promises.proofs.Keys.{key-counts, key-related, key-tested-some}
 use Rattle.promises.proofs.Agreement.{sized-yes}
-use Rattle.promises.proofs.Refusals.{Holds, must-either, set-either, ways, late-rule, filledAnswer, restsAnswer, foundAnswer, respondedAnswer}
+use Rattle.promises.proofs.Refusals.{Holds, must-either, set-either, ways, late-rule, filledAnswer, restsAnswer, foundAnswer, unnumberedAnswer}
 
 -- ---- the rest is zero
 
@@ -189,7 +190,7 @@ unfolding tested
 by-tests long a y1 y2 = search (ways, other)
 
 by-refusal : (g : Signature) → Holds (NotSeven numberOf) (refusalOf g)
-unfolding refusalOf
+unfolding refusalFor
 by-refusal g = search (ways, other, by-rule)
 
 -- a key in range
@@ -212,8 +213,8 @@ unfolding comparison
 comparison-holds set claimed hashed = search (ways, other)
 
 -- the number beside what a call leaves behind is that of its outcome
-abbrev ofResponse : Responded → ℕ
-ofResponse x = numberOf (respondedAnswer x)
+abbrev ofResponse : Unnumbered → ℕ
+ofResponse x = numberOf (unnumberedAnswer x)
 
 abbrev ofFilled : Filled → ℕ
 ofFilled x = numberOf (filledAnswer x)
@@ -227,7 +228,7 @@ ofReading x = numberOf (foundAnswer x)
 abbrev ofSection : Fetched → ℕ
 ofSection (fetched at bytes number place) = number
 
-in-response : (o : Outcome) (count : ℕ) (z1 z2 : List ℤ) → Holds (NotSeven numberOf) o → Holds (NotSeven ofResponse) (responded o count z1 z2)
+in-response : (o : Outcome) (count : ℕ) (z1 z2 : List ℤ) → Holds (NotSeven numberOf) o → Holds (NotSeven ofResponse) (unnumbered o count z1 z2)
 in-response o count z1 z2 h = record { is = h .is }
 
 in-filled : (o : Outcome) (out : List ℕ) → Holds (NotSeven numberOf) o → Holds (NotSeven ofFilled) (filled o out)
@@ -236,8 +237,8 @@ in-filled o out h = record { is = h .is }
 in-rests : (o : Outcome) (digits : List ℕ) (rests : List ℤ) → Holds (NotSeven numberOf) o → Holds (NotSeven ofRests) (withRests o digits rests)
 in-rests o digits rests h = record { is = h .is }
 
-in-reading : (o : Outcome) (set : ℕ) (z1 z2 : List ℤ) (l : List ℕ) → Holds (NotSeven numberOf) o → Holds (NotSeven ofReading) (found o set z1 z2 l)
-in-reading o set z1 z2 l h = record { is = h .is }
+in-reading : (o : Outcome) (set key : ℕ) (b : Buffers) → Holds (NotSeven numberOf) o → Holds (NotSeven ofReading) (found o set key b)
+in-reading o set key b h = record { is = h .is }
 
 in-section : (at : ℕ × ℕ) (bytes : List ℕ) (number place : ℕ) → eqb number 7 ≡ false → Holds (NotSeven ofSection) (fetched at bytes number place)
 in-section at bytes number place e = record { is = eqb-false number 7 e }
@@ -260,8 +261,8 @@ response-for s c =
     (in-response _ 0 _ _ (proper-key s (c .f) (c .g) (c .a) range)) (draw-holds s (drawing c) (choices (secret c) (c .list))))))
     (λ e. in-response CoefficientOutside 0 _ _ (other CoefficientOutside refl)))
 
-response-holds : (set : ℕ) (c : Lent) → Holds (NotSeven ofResponse) (response set c)
-unfolding response
+response-holds : (set : ℕ) (c : Lent) → Holds (NotSeven ofResponse) (responding set c)
+unfolding responding
 response-holds set c = set-either (askedOf set) (early c UnknownSet) (λ s. responseFor s c) (in-response UnknownSet 0 _ _ (other UnknownSet refl)) (λ s. response-for s c)
 
 commitment-holds : (set : ℕ) (a : List ℕ) (y1 y2 : List ℤ) (out : List ℕ) → Holds (NotSeven ofFilled) (commitment set a y1 y2 out)
@@ -295,13 +296,13 @@ section-holds from to p rec = search others
 pub no-key-too-long : NoKeyTooLong
 no-key-too-long = record {
   key-tests = λ set f g a. key-test set f g a .is;
-  responses = λ set c o count z1 z2 e. subst (NotSeven ofResponse) e (response-holds set c .is);
+  responses = λ set key c o count back z1 z2 e. subst (NotSeven ofResponse) (unnumbered-of set key c o count back z1 z2 e .0) (response-holds set c .is);
   commitments = λ set a y1 y2 out o after e. subst (NotSeven ofFilled) e (commitment-holds set a y1 y2 out .is);
   commitments-with-rests = λ set a y1 y2 old o digits rests e. subst (NotSeven ofRests) e (with-rests-holds set a y1 y2 old .is);
   rebuilds = λ set a c out o after e. subst (NotSeven ofFilled) e (rebuild-holds set a c out .is);
   comparisons = λ set claimed hashed. comparison-holds set claimed hashed .is;
   writers = λ form a out o after e. subst (NotSeven ofFilled) e (writer-holds form a out .is);
-  readers = λ form rec old o set z1 z2 l e. subst (NotSeven ofReading) e (reader-holds form rec old .is);
+  readers = λ form rec old o set key after e. subst (NotSeven ofReading) e (reader-holds form rec old .is);
   conversions = λ from to rec out o after e. subst (NotSeven ofFilled) e (conversion-holds from to rec out .is);
   sections = λ from to p rec at bytes number place e. subst (NotSeven ofSection) e (section-holds from to p rec .is);
 }

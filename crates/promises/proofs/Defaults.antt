@@ -22,13 +22,14 @@ use Rattle.vectors.proofs.Rising.{proper-count}
 use Rattle.keys.specs.Key.{isResidue, keyTest}
 use Rattle.keys.proofs.Ranges.{a-residues}
 use Rattle.commitment.specs.Commitment.{commitment, commitmentWithRests}
-use Rattle.signing.specs.Response.{responded, response}
+use Rattle.signing.specs.Response.{responded, responding, response}
+use Rattle.signing.proofs.Numbered.{key-done, unnumbered-of}
 use Rattle.checking.specs.Checking.{claim, rebuild, comparison}
 use Rattle.byte_codes.specs.Bytes.{bytesOf}
 use Rattle.record_forms.specs.declared.Form.{Form}
 use Rattle.record_forms.specs.declared.Form.the-variants.{Plain, Packed}
 use Rattle.record_forms.specs.Forms.{totalOf}
-use Rattle.record_forms.specs.Headers.{headerOf}
+use Rattle.record_forms.specs.Headers.{fieldsOf, headerOf}
 use Rattle.records.specs.Signatures.{signature, recordOf}
 use Rattle.records.specs.Writer.{offered, writingOf}
 use Rattle.records.proofs.RoundTrip.{written-reads}
@@ -39,15 +40,15 @@ use Rattle.promises.proofs.Agreement.{z-first, daggers-512, sized-yes, 
 -- ---- a call knows its number by the set that it asks for, and by nothing else
 module _ (n m : ℕ) (same : askedOf n ≡ askedOf m) where
   pub same-calls : SameCalls n m
-  unfolding keyTest commitment commitmentWithRests response rebuild comparison writingOf
+  unfolding keyTest commitment commitmentWithRests responding response rebuild comparison writingOf
   same-calls = record {
     key-tests = λ f g a. rw same;
     commitments = λ a y1 y2 out. rw same;
     commitments-with-rests = λ a y1 y2 old. rw same;
-    responses = λ c. rw same;
+    responses = λ key c. rw same;
     rebuilds = λ a c out. rw same;
     comparisons = λ claimed hashed. rw same;
-    writers = λ form z1 z2 l out. rw same;
+    writers = λ form key z1 z2 l out. rw same;
     kappas = rw same;
     records = λ form. rw same;
   }
@@ -70,19 +71,20 @@ the-set : (set : ℕ) (s s′ : Set) → askedOf set ≡ Known s → askedOf set
 the-set set s s′ e f = cc
 
 -- a record of set 4 states it
-states-four : (form : Form) (z1 z2 : List ℤ) (l tail : List ℕ) → getD (recordOf form (signature IV z1 z2 l) ++ tail) 4 0 ≡ 4
-unfolding recordOf headerOf bytesOf
-states-four form z1 z2 l tail = elim form [ Plain ↦ refl | Packed ↦ refl ]
+states-four : (form : Form) (key : ℕ) (z1 z2 : List ℤ) (l tail : List ℕ) → getD (recordOf form (signature IV key z1 z2 l) ++ tail) 4 0 ≡ 4
+unfolding recordOf headerOf fieldsOf bytesOf
+states-four form key z1 z2 l tail = elim form [ Plain ↦ refl | Packed ↦ refl ]
 
 pub default-on-both-sides : DefaultOnBothSides
-default-on-both-sides form c o count z1 z2 before old out e number lb lo room =
-    let given = given-out c count z1 z2 0 (e ∙ ap (λ (p : Outcome). responded p count z1 z2) (zero-is o number)) in
+default-on-both-sides form key c o count number z1 z2 before old out small e zero lb lo room =
+    let given = given-out c count z1 z2 0 key number (e ∙ ap (λ (p : Outcome). responded p count number z1 z2) (zero-is o zero)) in
     let own = the-set 0 (given .0) IV (given .1) asked-zero in
-    let accepted = given-out-is-accepted 0 c o count z1 z2 before old e number lb lo in
+    let accepted = given-out-is-accepted 0 key c o count number z1 z2 before old e zero lb lo in
     let same = the-set 0 (accepted .0) IV (accepted .1) asked-zero in
-    let writes = given-out-is-written form 0 IV c o count z1 z2 out e number asked-zero room in
-    let after = recordOf form (signature IV z1 z2 (c .list)) ++ drop (totalOf form IV) out in
-    let back = written-reads form (offered 0 z1 z2 (c .list)) out Done after refl writes in
+    let writes = given-out-is-written form 0 key IV c o count number z1 z2 out e zero asked-zero room in
+    let after = recordOf form (signature IV key z1 z2 (c .list)) ++ drop (totalOf form IV) out in
+    let own-number : number ≡ key = unnumbered-of 0 key c o count number z1 z2 e .1 ∙ key-done o key zero in
+    let back = written-reads form (offered 0 key z1 z2 (c .list)) out Done after small refl (rw own-number at writes) in
     let back-own = the-set 0 (back .s) IV (back .asked) asked-zero in (
       same-list 0 IV (c .list) asked-zero (rw own at (given .2 .list)),
       rw same at (accepted .2),
@@ -90,7 +92,7 @@ default-on-both-sides form c o count z1 z2 before old out e number lb lo room =
       (
         after,
         (Done, writes, refl),
-        states-four form z1 z2 (c .list) (drop (totalOf form IV) out),
+        states-four form key z1 z2 (c .list) (drop (totalOf form IV) out),
         rw back-own at (back .reads),
       ),
     )
@@ -113,14 +115,14 @@ module _ (set : ℕ) (s : Set) (known : askedOf set ≡ Known s) (l : List ℕ) 
       rw (known, sized-yes a la, sized-yes z1 l1, sized-yes z2 l2, sized-yes out lo, residues, improper)
 
 pub sheet-of-one : SheetOfOne
-sheet-of-one c o count z1 z2 old e number lo =
-    let given = given-out c count z1 z2 1 (e ∙ ap (λ (p : Outcome). responded p count z1 z2) (zero-is o number)) in
+sheet-of-one key c o count number z1 z2 old e zero lo =
+    let given = given-out c count z1 z2 1 key number (e ∙ ap (λ (p : Outcome). responded p count number z1 z2) (zero-is o zero)) in
     let own = the-set 1 (given .0) I (given .1) (asked-back I) in
     let passed = given .2 in
     let out = given .3 in
     let proper : properList I (c .list) ≡ true = rw own at (passed .list) in
     let improper = other-count I IV (c .list) fewer proper in
-    let accepted = given-out-is-accepted 1 c o count z1 z2 old old e number lo lo in
+    let accepted = given-out-is-accepted 1 key c o count number z1 z2 old old e zero lo lo in
     let same = the-set 1 (accepted .0) I (accepted .1) (asked-back I) in (
       (
         ImproperList,

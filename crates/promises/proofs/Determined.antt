@@ -29,10 +29,10 @@ pub with-rests-parts : {o o′ : Outcome} {x x′ : List ℕ} {y y′ : List ℤ
     → (o ≡ o′) × (x ≡ x′) × (y ≡ y′)
 with-rests-parts answer p q = (cc, cc, cc)
 
--- one equation fixes the outcome, the count and both vectors
-responded-parts : {o o′ : Outcome} {n n′ : ℕ} {x x′ y y′ : List ℤ} (answer : Responded) → responded o n x y ≡ answer → responded o′ n′ x′ y′ ≡ answer
-    → (o ≡ o′) × (n ≡ n′) × (x ≡ x′) × (y ≡ y′)
-responded-parts answer p q = (cc, cc, cc, cc)
+-- one equation fixes the outcome, the count, the key number and both vectors
+responded-parts : {o o′ : Outcome} {n n′ k k′ : ℕ} {x x′ y y′ : List ℤ} (answer : Responded) → responded o n k x y ≡ answer → responded o′ n′ k′ x′ y′ ≡ answer
+    → (o ≡ o′) × (n ≡ n′) × (k ≡ k′) × (x ≡ x′) × (y ≡ y′)
+responded-parts answer p q = (cc, cc, cc, cc, cc)
 
 pub key-test-determined : (κs : Lfts 3) (a : _) (r r′ : _) (s s′ : _) → keyTest.Post κs a r s → keyTest.Post κs a r′ s′ → r ≡ r′
 key-test-determined κs a r r′ s s′ p q = p ∙ sym q
@@ -46,7 +46,7 @@ pub commitment-with-rests-determined : (κs : Lfts 5) (a : _) (r r′ : _) (s s�
 commitment-with-rests-determined κs a r r′ s s′ p q = with-rests-parts _ p q
 
 pub response-determined : (κs : Lfts 10) (a : _) (r r′ : _) (s s′ : _) → respond.Post κs a r s → respond.Post κs a r′ s′
-    → (r .outcome ≡ r′ .outcome) × (r .words ≡ r′ .words)
+    → (r .outcome ≡ r′ .outcome) × (r .words ≡ r′ .words) × (r .key ≡ r′ .key)
     × (now (response-z1 s) ≡ now (response-z1 s′))
     × (now (response-z2 s) ≡ now (response-z2 s′))
 response-determined κs a r r′ s s′ p q = responded-parts _ p q

@@ -152,8 +152,8 @@ module _ (s : Set) (c : Lent) (before : Admitted s c) where
   dropped-at i = dropped-digits s (getD u-of i 0) (getD (z2Of c) i (pos 0)) (sums-reduced (c .a) (c .y1) (c .y2) i) (z2-small i)
 
 pub dropped-given-out : DroppedGivenOut
-dropped-given-out set c o count z1 z2 e zero =
-    let given = given-out c count z1 z2 set (e ∙ ap (λ (p : Outcome). responded p count z1 z2) (zero-is o zero)) in
+dropped-given-out set key c o count back z1 z2 e zero =
+    let given = given-out c count z1 z2 set key back (e ∙ ap (λ (p : Outcome). responded p count back z1 z2) (zero-is o zero)) in
     let s = given .0 in
     let passed = given .2 in
     let signature = given .3 in (

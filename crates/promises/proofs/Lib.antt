@@ -3,7 +3,7 @@
 -- `Sums`: the sums of signer and checker modulo 2q. `Daggers`: what z2 dagger restores. `Agreement`: demand 3. `Trials`: the numbers of the draw's trials.
 -- `Refusals`: demand 1. `Determined`: one result for each call. `Published`, `Greedy`: the algorithms of document 004. `Rests`: the commitment with rests.
 -- `Dropped`: how much the dropped digits cost. `Counts`: the counts of a key, and that refusal 7 can't occur. `Defaults`: what 0 stands for on a call, and the old default.
--- `Longer`: sets 5 to 8. `Packed`: the numbers of the packed record.
+-- `Longer`: sets 5 to 8. `Packed`: the numbers of the packed record. `KeyNumbers`: the key number.
 pub mod Passed
 pub mod Keys
 pub mod Sums
@@ -21,3 +21,4 @@ pub mod Counts
 pub mod Defaults
 pub mod Longer
 pub mod Packed
+pub mod KeyNumbers

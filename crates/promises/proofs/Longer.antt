@@ -22,7 +22,7 @@ use Rattle.rounding.specs.Rounding.{quotient, upper, rest}
 use Rattle.limits.specs.LengthRule.{lengthRule}
 use Rattle.keys.specs.Key.{properKey, keyTest}
 use Rattle.commitment.specs.Commitment.{sums, committed, restsOf, commitment, commitmentWithRests}
-use Rattle.signing.specs.Response.{response}
+use Rattle.signing.specs.Response.{responding, response}
 use Rattle.checking.specs.Checking.{rebuild, comparison}
 use Rattle.records.specs.Writer.{writingOf}
 use Rattle.promises.specs.Longer.{others, Above, LongerSets, KeysOfFour, NoSet, SetAbove}
@@ -103,15 +103,15 @@ known-within n h =
     known-is (askedOf n) (rw (getD-tabulate askedOf (lastNumber + 1) n Unknown k) at known)
 
 no-set : (n : ℕ) → askedOf n ≡ Unknown → NoSet n
-unfolding keyTest commitment commitmentWithRests response rebuild comparison writingOf
+unfolding keyTest commitment commitmentWithRests responding response rebuild comparison writingOf
 no-set n e = record {
   key-tests = λ f g a. rw e;
   commitments = λ a y1 y2 out. (UnknownSet, rw e, refl);
   commitments-with-rests = λ a y1 y2 old. rw e;
-  responses = λ c. rw e;
+  responses = λ key c. rw e;
   rebuilds = λ a c out. (UnknownSet, rw e, refl);
   comparisons = λ claimed hashed. rw e;
-  writers = λ form z1 z2 l out. (UnknownSet, rw e, refl);
+  writers = λ form key z1 z2 l out. (UnknownSet, rw e, refl);
   kappas = rw e;
   records = λ form. rw e;
 }

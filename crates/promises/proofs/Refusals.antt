@@ -1,5 +1,5 @@
 -- Demand 1: no refusal writes to an output buffer; and the word count of a refused response. Assumes nothing.
-use mathlib.Core.Path.{_≡_, refl, ap, subst}
+use mathlib.Core.Path.{_≡_, refl, ap, _∙_, subst}
 use mathlib.Core.Bool.{Bool, true, false}
 use mathlib.Core.List.{List, [], _∷_}
 use Prim.Native.Nat.{ℕ, suc, _*_, _≤_}
@@ -24,7 +24,8 @@ use Rattle.commitment.specs.Commitment.{commitment, Outputs, WithRests, withRes
 use Rattle.draw.specs.declared.Ending.{Ending}
 use Rattle.draw.specs.declared.Ending.the-variants.{Accepted, Rejected, OutOfWords}
 use Rattle.draw.specs.Draw.{afterWalk}
-use Rattle.signing.specs.Response.{Lent, Responded, responded, drawn, responseFor, response}
+use Rattle.signing.specs.Response.{Lent, Unnumbered, unnumbered, drawn, responseFor, responding}
+use Rattle.signing.proofs.Numbered.{key-refused, unnumbered-of}
 use Rattle.checking.specs.Checking.{Claim, rebuild}
 use Rattle.record_forms.specs.declared.Header.{Header}
 use Rattle.record_forms.specs.declared.Header.the-variants.{States, Malformed}
@@ -132,35 +133,35 @@ conversion-holds from to rec out = search (ways, ends) depth 10
 pub conversion-keeps : ConversionKeeps
 conversion-keeps from to rec out o after e = subst (Keeps filledAnswer filledLeft out) e (conversion-holds from to rec out .is)
 
--- the reader's set and its three buffers
+-- the reader's set, its key number and its three buffers
 abbrev pub foundAnswer : Found → Outcome
-foundAnswer (found o set after1 after2 after3) = o
+foundAnswer (found o set key after) = o
 
 abbrev Kept : Type 0
-Kept = ℕ × List ℤ × List ℤ × List ℕ
+Kept = ℕ × ℕ × Buffers
 
 abbrev foundLeft : Found → Kept
-foundLeft (found o set after1 after2 after3) = (set, after1, after2, after3)
+foundLeft (found o set key after) = (set, key, after)
 
-reader-holds : (form : Form) (rec : List ℕ) (old : Buffers) → Holds (Keeps foundAnswer foundLeft (0, old .z1, old .z2, old .list)) (readingOf form rec old)
+reader-holds : (form : Form) (rec : List ℕ) (old : Buffers) → Holds (Keeps foundAnswer foundLeft (0, 0, old)) (readingOf form rec old)
 unfolding readingOf readingFor
 reader-holds form rec old = search (ways, ends) depth 10
 
 pub reader-keeps : ReaderKeeps
-reader-keeps form rec old o set after1 after2 after3 e n =
-    let same = subst (Keeps foundAnswer foundLeft (0, old .z1, old .z2, old .list)) e (reader-holds form rec old .is) n in
-    (ap (λ (x : Kept). x .0) same, ap (λ (x : Kept). x .1) same, ap (λ (x : Kept). x .2) same, ap (λ (x : Kept). x .3) same)
+reader-keeps form rec old o set key after e n =
+    let same = subst (Keeps foundAnswer foundLeft (0, 0, old)) e (reader-holds form rec old .is) n in
+    (ap (λ (x : Kept). x .0) same, ap (λ (x : Kept). x .1) same, ap (λ (x : Kept). x .2) same)
 
 -- the response's two vectors
-abbrev pub respondedAnswer : Responded → Outcome
-respondedAnswer (responded o count after1 after2) = o
+abbrev pub unnumberedAnswer : Unnumbered → Outcome
+unnumberedAnswer (unnumbered o count after1 after2) = o
 
-abbrev respondedLeft : Responded → List ℤ × List ℤ
-respondedLeft (responded o count after1 after2) = (after1, after2)
+abbrev unnumberedLeft : Unnumbered → List ℤ × List ℤ
+unnumberedLeft (unnumbered o count after1 after2) = (after1, after2)
 
 -- ---- its count
-abbrev Counts : ℕ → Responded → Type 0
-Counts lent (responded o count after1 after2) = (1 ≤ numberOf o → numberOf o ≤ 7 → count ≡ 0) × (numberOf o ≡ 15 → count ≡ 0) × (numberOf o ≡ 9 → count ≡ lent)
+abbrev Counts : ℕ → Unnumbered → Type 0
+Counts lent (unnumbered o count after1 after2) = (1 ≤ numberOf o → numberOf o ≤ 7 → count ≡ 0) × (numberOf o ≡ 15 → count ≡ 0) × (numberOf o ≡ 9 → count ≡ lent)
 
 -- the tests before the draw do not answer 9
 abbrev Early : Outcome → Type 0
@@ -197,32 +198,33 @@ unfolding properKey
 early-key s f g a = search (ways, early)
 
 module _ (lent : ℕ) (z1 z2 : List ℤ) where
-  counts-early : (o : Outcome) → Holds Early o → Holds (Counts lent) (responded o 0 z1 z2)
+  counts-early : (o : Outcome) → Holds Early o → Holds (Counts lent) (unnumbered o 0 z1 z2)
   counts-early o h = record { is = (λ m n. refl, λ e. refl, λ e. absurd (h .is e)) }
 
-  counts-short : Holds (Counts lent) (responded WordMissing lent z1 z2)
+  counts-short : Holds (Counts lent) (unnumbered WordMissing lent z1 z2)
   counts-short = record { is = (λ m n. absurd (omega arith), λ e. absurd (omega arith), λ e. refl) }
 
-  counts-rejected : (count : ℕ) → Holds (Counts lent) (responded DrawRejected count z1 z2)
+  counts-rejected : (count : ℕ) → Holds (Counts lent) (unnumbered DrawRejected count z1 z2)
   counts-rejected count = record { is = (λ m n. absurd (omega arith), λ e. absurd (omega arith), λ e. absurd (omega arith)) }
 
-  counts-late : (count : ℕ) (o : Outcome) → Holds Late o → Holds (Counts lent) (responded o count z1 z2)
+  counts-late : (count : ℕ) (o : Outcome) → Holds Late o → Holds (Counts lent) (unnumbered o count z1 z2)
   counts-late count o h =
       record { is = (λ m n. absurd (omega (arith, h .is m)), λ e. absurd (omega (arith, h .is (omega arith))), λ e. absurd (omega (arith, h .is (omega arith)))) }
 
 module _ (set : ℕ) (c : Lent) where
-  response-holds : Holds (Keeps respondedAnswer respondedLeft (c .z1, c .z2)) (response set c)
-  unfolding response responseFor drawn
+  response-holds : Holds (Keeps unnumberedAnswer unnumberedLeft (c .z1, c .z2)) (responding set c)
+  unfolding responding responseFor drawn
   response-holds = search (ways, ends) depth 12
 
-  count-holds : Holds (Counts (length (c .words))) (response set c)
-  unfolding response responseFor drawn
+  count-holds : Holds (Counts (length (c .words))) (responding set c)
+  unfolding responding responseFor drawn
   count-holds = search (ways, early, early-key, counts-early, late-rule, late-done, counts-late, counts-rejected, counts-short) depth 12
 
 pub response-keeps : ResponseKeeps
-response-keeps set c o count after1 after2 e n =
-    let same = subst (Keeps respondedAnswer respondedLeft (c .z1, c .z2)) e (response-holds set c .is) n in
-    (ap (λ (x : List ℤ × List ℤ). x .0) same, ap (λ (x : List ℤ × List ℤ). x .1) same)
+response-keeps set key c o count back after1 after2 e n =
+    let parts = unnumbered-of set key c o count back after1 after2 e in
+    let same = subst (Keeps unnumberedAnswer unnumberedLeft (c .z1, c .z2)) (parts .0) (response-holds set c .is) n in
+    (parts .1 ∙ key-refused o key n, ap (λ (x : List ℤ × List ℤ). x .0) same, ap (λ (x : List ℤ × List ℤ). x .1) same)
 
 pub response-counts : ResponseCounts
-response-counts set c o count after1 after2 e = subst (Counts (length (c .words))) e (count-holds set c .is)
+response-counts set key c o count back after1 after2 e = subst (Counts (length (c .words))) (unnumbered-of set key c o count back after1 after2 e .0) (count-holds set c .is)

@@ -19,20 +19,21 @@ use Rattle.vectors.specs.Pairs.{Pair, pair}
 use Rattle.choices.specs.Choices.{choices}
 use Rattle.draw.specs.Draw.{walkOf}
 use Rattle.masking.specs.Masking.{masked, firstTrial, secondTrial}
-use Rattle.signing.specs.Response.{Lent, secret, drawing, Responded, responded, leaving, shortened, given, drawn, allSized, early, responseFor, response}
+use Rattle.signing.specs.Response.{Lent, secret, drawing, Unnumbered, unnumbered, leaving, shortened, given, drawn, allSized, early, responseFor, responding, responded, response}
 use Rattle.signing.proofs.Ways.{all-sized}
+use Rattle.signing.proofs.Numbered.{unnumbered-of}
 use Rattle.promises.proofs.Passed.{must-passed, unless-passed, set-known, walk-accepted}
 use Rattle.promises.proofs.Keys.{Tested}
 
 -- ---- the parts of an answer
-abbrev outcomeOf : Responded → Outcome
-outcomeOf (responded o count z1 z2) = o
+abbrev outcomeOf : Unnumbered → Outcome
+outcomeOf (unnumbered o count z1 z2) = o
 
-abbrev firstOf : Responded → List ℤ
-firstOf (responded o count z1 z2) = z1
+abbrev firstOf : Unnumbered → List ℤ
+firstOf (unnumbered o count z1 z2) = z1
 
-abbrev secondOf : Responded → List ℤ
-secondOf (responded o count z1 z2) = z2
+abbrev secondOf : Unnumbered → List ℤ
+secondOf (unnumbered o count z1 z2) = z2
 
 -- v, the sign choices, and z = y + v or y - v
 abbrev pub chosenOf : Lent → Pair
@@ -56,8 +57,8 @@ pub record GivenOut (s : Set) (c : Lent) (z1 z2 : List ℤ) : Type 0 where
   pub rule : lengthRule s z1 z2 ≡ Done
 
 module _ (c : Lent) (count : ℕ) (z1 z2 : List ℤ) where
-  abbrev done : Responded
-  done = responded Done count z1 z2
+  abbrev done : Unnumbered
+  done = unnumbered Done count z1 z2
 
   given-drawn : (s : Set) → drawn s (drawing c) (chosenOf c) ≡ done → GivenOut s c z1 z2
   unfolding drawn
@@ -99,9 +100,12 @@ module _ (c : Lent) (count : ℕ) (z1 z2 : List ℤ) where
         given-drawn s (sym (five .2) ∙ sym (four .2) ∙ sym (three .2) ∙ sym (two .2) ∙ sym (one .2) ∙ h),
       )
 
-  pub given-out : (set : ℕ) → response set c ≡ done → (s : Set) × (askedOf set ≡ Known s) × Admitted s c × GivenOut s c z1 z2
-  unfolding response
-  given-out set h =
+  given-unnumbered : (set : ℕ) → responding set c ≡ done → (s : Set) × (askedOf set ≡ Known s) × Admitted s c × GivenOut s c z1 z2
+  unfolding responding
+  given-unnumbered set h =
       let known = set-known outcomeOf (askedOf set) (early c UnknownSet) (λ s. responseFor s c) refl (ap (λ r. isDone (outcomeOf r)) h) in
       let both = given-for (known .0) (sym (known .3) ∙ h) in
       (known .0, known .1, both .0, both .1)
+
+  pub given-out : (set key back : ℕ) → response set key c ≡ responded Done count back z1 z2 → (s : Set) × (askedOf set ≡ Known s) × Admitted s c × GivenOut s c z1 z2
+  given-out set key back h = given-unnumbered set (unnumbered-of set key c Done count back z1 z2 h .0)

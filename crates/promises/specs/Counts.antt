@@ -20,7 +20,7 @@ use Rattle.checking.specs.Checking.{Claim, rebuild, comparison}
 use Rattle.record_forms.specs.Sections.{fetched, sectionOf}
 use Rattle.record_forms.specs.declared.Form.{Form}
 use Rattle.records.specs.Writer.{Offered, writingOf}
-use Rattle.records.specs.Reader.{found, Buffers, readingOf}
+use Rattle.records.specs.Reader.{Buffers, found, readingOf}
 use Rattle.records.specs.Conversion.{conversionOf}
 
 -- "f and g each have exactly d1 coefficients of 1 or -1 and exactly d2 of 2 or -2, the rest zero", of one of them
@@ -72,8 +72,8 @@ NotTooLong o = numberOf o ≡ 7 → ⊥
 pub record NoKeyTooLong : Type 0 where
   pub key-tests : (set : ℕ) (f g : List ℤ) (a : List ℕ) → NotTooLong (keyTest set f g a)
   pub responses :
-      (set : ℕ) (c : Lent) (o : Outcome) (count : ℕ) (z1 z2 : List ℤ)
-      → response set c ≡ responded o count z1 z2
+      (set key : ℕ) (c : Lent) (o : Outcome) (count back : ℕ) (z1 z2 : List ℤ)
+      → response set key c ≡ responded o count back z1 z2
       → NotTooLong o
   pub commitments :
       (set : ℕ) (a : List ℕ) (y1 y2 : List ℤ) (out : List ℕ) (o : Outcome) (after : List ℕ)
@@ -93,8 +93,8 @@ pub record NoKeyTooLong : Type 0 where
       → writingOf form a out ≡ filled o after
       → NotTooLong o
   pub readers :
-      (form : Form) (rec : List ℕ) (old : Buffers) (o : Outcome) (set : ℕ) (z1 z2 : List ℤ) (l : List ℕ)
-      → readingOf form rec old ≡ found o set z1 z2 l
+      (form : Form) (rec : List ℕ) (old : Buffers) (o : Outcome) (set key : ℕ) (after : Buffers)
+      → readingOf form rec old ≡ found o set key after
       → NotTooLong o
   pub conversions :
       (from to : Form) (rec out : List ℕ) (o : Outcome) (after : List ℕ)

@@ -18,11 +18,11 @@ use Rattle.keys.specs.Key.{keyTest}
 use Rattle.commitment.specs.Commitment.{areMasks, committed, commitment, Outputs, withRests, commitmentWithRests}
 use Rattle.choices.specs.Choices.{choices}
 use Rattle.masking.specs.Masking.{masked, firstTrial, secondTrial}
-use Rattle.signing.specs.Response.{Lent, secret, drawing, responded, drawn, response}
+use Rattle.signing.specs.Response.{Lent, secret, drawing, responded, drawn, numbered, response}
 use Rattle.checking.specs.Checking.{Claim, claim, rebuild, rebuildDefaultOne, comparison}
 use Rattle.record_forms.specs.declared.Form.{Form}
 use Rattle.records.specs.Writer.{Offered, writingOf}
-use Rattle.records.specs.Reader.{found, Buffers, readingOf}
+use Rattle.records.specs.Reader.{Buffers, found, readingOf}
 use Rattle.records.specs.Conversion.{conversionOf}
 
 -- ---- demand 1: each refusal "leaves the output buffers with the contents they came with"
@@ -62,13 +62,13 @@ RebuildDefaultOneKeeps =
     → (numberOf o ≡ 0 → ⊥)
     → after ≡ out
 
--- both vectors of the response
+-- both vectors of the response; the key number is then 0
 abbrev pub ResponseKeeps : Type 0
 ResponseKeeps =
-    (set : ℕ) (c : Lent) (o : Outcome) (count : ℕ) (after1 after2 : List ℤ)
-    → response set c ≡ responded o count after1 after2
+    (set key : ℕ) (c : Lent) (o : Outcome) (count back : ℕ) (after1 after2 : List ℤ)
+    → response set key c ≡ responded o count back after1 after2
     → (numberOf o ≡ 0 → ⊥)
-    → (after1 ≡ c .z1) × (after2 ≡ c .z2)
+    → (back ≡ 0) × (after1 ≡ c .z1) × (after2 ≡ c .z2)
 
 -- the writer's output, in either form
 abbrev pub WriterKeeps : Type 0
@@ -78,13 +78,13 @@ WriterKeeps =
     → (numberOf o ≡ 0 → ⊥)
     → after ≡ out
 
--- the reader's three buffers; the set is then 0
+-- the reader's three buffers; set and key number are then 0
 abbrev pub ReaderKeeps : Type 0
 ReaderKeeps =
-    (form : Form) (rec : List ℕ) (old : Buffers) (o : Outcome) (set : ℕ) (after1 after2 : List ℤ) (after3 : List ℕ)
-    → readingOf form rec old ≡ found o set after1 after2 after3
+    (form : Form) (rec : List ℕ) (old : Buffers) (o : Outcome) (set key : ℕ) (after : Buffers)
+    → readingOf form rec old ≡ found o set key after
     → (numberOf o ≡ 0 → ⊥)
-    → (set ≡ 0) × (after1 ≡ old .z1) × (after2 ≡ old .z2) × (after3 ≡ old .list)
+    → (set ≡ 0) × (key ≡ 0) × (after ≡ old)
 
 -- a conversion's output
 abbrev pub ConversionKeeps : Type 0
@@ -98,8 +98,8 @@ ConversionKeeps =
 -- and 15
 abbrev pub ResponseCounts : Type 0
 ResponseCounts =
-    (set : ℕ) (c : Lent) (o : Outcome) (count : ℕ) (after1 after2 : List ℤ)
-    → response set c ≡ responded o count after1 after2
+    (set key : ℕ) (c : Lent) (o : Outcome) (count back : ℕ) (after1 after2 : List ℤ)
+    → response set key c ≡ responded o count back after1 after2
     → (1 ≤ numberOf o → numberOf o ≤ 7 → count ≡ 0) × (numberOf o ≡ 15 → count ≡ 0) × (numberOf o ≡ 9 → count ≡ length (c .words))
 
 -- ---- demand 3
@@ -139,8 +139,8 @@ ResponseLength =
 -- and of the rebuild held.
 abbrev pub GivenOutIsAccepted : Type 0
 GivenOutIsAccepted =
-    (set : ℕ) (c : Lent) (o : Outcome) (count : ℕ) (z1 z2 : List ℤ) (before old : List ℕ)
-    → response set c ≡ responded o count z1 z2
+    (set key : ℕ) (c : Lent) (o : Outcome) (count back : ℕ) (z1 z2 : List ℤ) (before old : List ℕ)
+    → response set key c ≡ responded o count back z1 z2
     → numberOf o ≡ 0
     → length before ≡ dimension → length old ≡ dimension
     → (s : Set) × (askedOf set ≡ Known s)
@@ -160,9 +160,9 @@ TrialsFit =
 -- Those premises are enough to come to the draw: the response refuses nothing before it, whatever the sign bit, the thresholds and the words are.
 abbrev pub ReachesTheDraw : Type 0
 ReachesTheDraw =
-    (set : ℕ) (s : Set) (c : Lent)
+    (set key : ℕ) (s : Set) (c : Lent)
     → Admissible set s c → Buffered c
-    → response set c ≡ drawn s (drawing c) (choices (secret c) (c .list))
+    → response set key c ≡ numbered key (drawn s (drawing c) (choices (secret c) (c .list)))
 
 -- Demand 3 as it stands, the checker's buffers at their stated length too: both sentences under all the premises it names; the checker compares the list that
 -- came with the signature with the same list.
@@ -172,8 +172,8 @@ Demand3 =
     → Admissible set s c → Buffered c
     → length before ≡ dimension → length old ≡ dimension
     → (squaresPair (choices (secret c) (c .list)) ≤ kappaOf s * squaresPair (secret c))
-    × ((o : Outcome) (count : ℕ) (z1 z2 : List ℤ)
-    → response set c ≡ responded o count z1 z2
+    × ((key : ℕ) (o : Outcome) (count back : ℕ) (z1 z2 : List ℤ)
+    → response set key c ≡ responded o count back z1 z2
     → numberOf o ≡ 0
     → (numberOf (comparison set (c .list) (c .list)) ≡ 0)
     × Fills (commitment set (c .a) (c .y1) (c .y2) before) (committed s (c .a) (c .y1) (c .y2))

@@ -57,8 +57,8 @@ z2Of c = masked (c .sign) (pair (c .y1) (c .y2)) (choices (secret c) (c .list)) 
 -- "For every response given out, at every place, 2^d times z2 dagger differs from z2 by at most 2^d + 1"
 abbrev pub DroppedGivenOut : Type 0
 DroppedGivenOut =
-    (set : ℕ) (c : Lent) (o : Outcome) (count : ℕ) (z1 z2† : List ℤ)
-    → response set c ≡ responded o count z1 z2†
+    (set key : ℕ) (c : Lent) (o : Outcome) (count back : ℕ) (z1 z2† : List ℤ)
+    → response set key c ≡ responded o count back z1 z2†
     → numberOf o ≡ 0
     → (s : Set) × (askedOf set ≡ Known s)
     × (length z2† ≡ dimension) × (length (z2Of c) ≡ dimension)

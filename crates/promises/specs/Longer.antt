@@ -12,7 +12,7 @@ use Rattle.answers.specs.Sizes.{kappaAsked}
 use Rattle.limits.specs.LengthRule.{lengthRule}
 use Rattle.keys.specs.Key.{keyTest}
 use Rattle.commitment.specs.Commitment.{commitment, Outputs, keeping, commitmentWithRests}
-use Rattle.signing.specs.Response.{Lent, early, response}
+use Rattle.signing.specs.Response.{Lent, early, numbered, response}
 use Rattle.checking.specs.Checking.{Claim, rebuild, comparison}
 use Rattle.record_forms.specs.declared.Form.{Form}
 use Rattle.record_forms.specs.declared.Form.the-variants.{Plain}
@@ -52,10 +52,10 @@ pub record NoSet (n : ℕ) : Type 0 where
   pub key-tests : (f g : List ℤ) (a : List ℕ) → numberOf (keyTest n f g a) ≡ 1
   pub commitments : (a : List ℕ) (y1 y2 : List ℤ) (out : List ℕ) → Refuses 1 (commitment n a y1 y2 out) out
   pub commitments-with-rests : (a : List ℕ) (y1 y2 : List ℤ) (old : Outputs) → commitmentWithRests n a y1 y2 old ≡ keeping old UnknownSet
-  pub responses : (c : Lent) → response n c ≡ early c UnknownSet
+  pub responses : (key : ℕ) (c : Lent) → response n key c ≡ numbered key (early c UnknownSet)
   pub rebuilds : (a : List ℕ) (c : Claim) (out : List ℕ) → Refuses 1 (rebuild n a c out) out
   pub comparisons : (claimed hashed : List ℕ) → numberOf (comparison n claimed hashed) ≡ 1
-  pub writers : (form : Form) (z1 z2 : List ℤ) (l out : List ℕ) → Refuses 1 (writingOf form (offered n z1 z2 l) out) out
+  pub writers : (form : Form) (key : ℕ) (z1 z2 : List ℤ) (l out : List ℕ) → Refuses 1 (writingOf form (offered n key z1 z2 l) out) out
   pub kappas : kappaAsked n ≡ 0
   pub records : (form : Form) → recordBytesAsked form n ≡ 0
 

@@ -1,5 +1,5 @@
-// The calls on records, each printed as a line: what it is lent, the number and the place, the set that the reader answers, and a checksum of what the
-// output, the buffers or the section holds afterwards. The program records_run has the cases.
+// The calls on records, each printed as a line: what it is lent, the number and the place, the set and the key number that the reader answers, and a checksum of
+// what the output, the buffers or the section holds afterwards. The program records_run has the cases.
 ghost use mathlib.Core.Path.{_≡_};
 ghost use lib.ListN.{length};
 use answers::Outcome;
@@ -12,6 +12,9 @@ use sets::Set;
 
 // More bytes than any record has.
 pub const ROOM: usize = 1800;
+
+// The key number that a record is written with: its bytes are 1, 2, 3, 4.
+pub const KEY: u32 = 67305985;
 
 pub fn bytes_of(b: u8) -> [u8; ROOM]
     ensures { λ r. ⌜ length r ≡ 1800 ⌝ }
@@ -128,9 +131,9 @@ fn write_room(
     out: &mut [u8],
 ) -> Outcome {
     if room <= out.len() {
-        records::write(form, set, z1, z2, list, &mut out[0..room])
+        records::write(form, set, KEY, z1, z2, list, &mut out[0..room])
     } else {
-        records::write(form, set, z1, z2, list, out)
+        records::write(form, set, KEY, z1, z2, list, out)
     }
 }
 
@@ -167,6 +170,7 @@ fn read_to(
                 show(o);
                 let set = r.set;
                 number(b", set ", set as u64);
+                number(b", key number ", r.key as u64);
             }
         }
     }

@@ -25,6 +25,10 @@ abbrev pub listBitsOf : Form → ℕ
 listBitsOf Plain = 16
 listBitsOf Packed = 9
 
+-- where the key number starts, the last field of a header (02, C-13)
+abbrev pub keyOffset : ℕ
+keyOffset = 20
+
 -- the bytes of a header
 abbrev pub headerLength : ℕ
 headerLength = 24

@@ -1,4 +1,4 @@
-// The form of a record, plain (01, "The record") or packed (02, C-11): its header, and its sections as parts of it.
+// The form of a record, plain (01, "The record") or packed (02, C-11): its header with the key number (02, C-13), and its sections as parts of it.
 mod sections;
 pub mod sizes;
 
@@ -6,8 +6,8 @@ ghost use mathlib.Core.Path.{_≡_};
 ghost use Prim.Native.Nat.{_*_, _≤_};
 ghost use lib.ListN.{length};
 ghost use Rattle.sets.specs.Numbers.{kappaOf};
-ghost use Rattle.record_forms.specs.Forms.{lettersOf, listBitsOf, headerLength, z2OffsetOf, listOffsetOf, totalOf};
-ghost use Rattle.record_forms.specs.Headers.{headerOf, agree, spareBits, setFields, fieldsAfter, headerIn};
+ghost use Rattle.record_forms.specs.Forms.{lettersOf, listBitsOf, keyOffset, headerLength, z2OffsetOf, listOffsetOf, totalOf};
+ghost use Rattle.record_forms.specs.Headers.{fieldsOf, headerOf, keyIn, agree, spareBits, setFields, fieldsAfter, headerIn};
 use byte_codes::put_number;
 pub use sections::list_section;
 pub use sections::z1_section;
@@ -20,7 +20,9 @@ pub const LETTERS: [u8; 4] = *b"BLB1";
 
 pub const PACKED_LETTERS: [u8; 4] = *b"BLP1";
 
-// The bytes of a header, and where z1 starts.
+// Where the key number starts; the bytes of a header, and where z1 starts.
+pub const KEY_OFFSET: usize = 20;
+
 pub const HEADER_LENGTH: usize = 24;
 
 pub const Z1_OFFSET: usize = HEADER_LENGTH;
@@ -112,7 +114,7 @@ pub fn header_in(form: Form, rec: &[u8]) -> Header
     }
     match Set::named(rec[4] as u32) {
         Asked::Unknown => Header::Malformed(4),
-        Asked::Known(s) => fields_after(form, s, &header_of(form, s), rec),
+        Asked::Known(s) => fields_after(form, s, &fields_of(form, s), rec),
     }
 }
 
@@ -124,46 +126,43 @@ fn opens(form: Form, rec: &[u8]) -> bool
     agrees(0, 4, rec, &form.letters())
 }
 
-fn fields_after(form: Form, s: Set, header: &[u8], rec: &[u8]) -> Header
-    requires { ⌜ (length (now header) ≡ headerLength) × (headerLength ≤ length (now rec)) ⌝ }
-    ensures { λ r. ⌜ r ≡ fieldsAfter form s (now (header .entry)) (now (rec .entry)) ⌝ }
+fn fields_after(form: Form, s: Set, fields: &[u8], rec: &[u8]) -> Header
+    requires { ⌜ (length (now fields) ≡ keyOffset) × (headerLength ≤ length (now rec)) ⌝ }
+    ensures { λ r. ⌜ r ≡ fieldsAfter form s (now (fields .entry)) (now (rec .entry)) ⌝ }
 {
-    if !agrees(5, 6, rec, header) {
+    if !agrees(5, 6, rec, fields) {
         return Header::Malformed(5);
     }
-    if !agrees(6, 8, rec, header) {
+    if !agrees(6, 8, rec, fields) {
         return Header::Malformed(6);
     }
-    if !agrees(8, 10, rec, header) {
+    if !agrees(8, 10, rec, fields) {
         return Header::Malformed(8);
     }
-    if !agrees(10, 12, rec, header) {
+    if !agrees(10, 12, rec, fields) {
         return Header::Malformed(10);
     }
-    if !agrees(12, 14, rec, header) {
+    if !agrees(12, 14, rec, fields) {
         return Header::Malformed(12);
     }
-    set_fields(form, s, header, rec)
+    set_fields(form, s, fields, rec)
 }
 
-fn set_fields(form: Form, s: Set, header: &[u8], rec: &[u8]) -> Header
-    requires { ⌜ (length (now header) ≡ headerLength) × (headerLength ≤ length (now rec)) ⌝ }
-    ensures { λ r. ⌜ r ≡ setFields form s (now (header .entry)) (now (rec .entry)) ⌝ }
+fn set_fields(form: Form, s: Set, fields: &[u8], rec: &[u8]) -> Header
+    requires { ⌜ (length (now fields) ≡ keyOffset) × (headerLength ≤ length (now rec)) ⌝ }
+    ensures { λ r. ⌜ r ≡ setFields form s (now (fields .entry)) (now (rec .entry)) ⌝ }
 {
-    if !agrees(14, 16, rec, header) {
+    if !agrees(14, 16, rec, fields) {
         return Header::Malformed(14);
     }
-    if !agrees(16, 18, rec, header) {
+    if !agrees(16, 18, rec, fields) {
         return Header::Malformed(16);
     }
-    if !agrees(18, 20, rec, header) {
+    if !agrees(18, KEY_OFFSET, rec, fields) {
         return Header::Malformed(18);
     }
     if rec.len() != form.total(s) {
         return Header::Malformed(18);
-    }
-    if !agrees(20, HEADER_LENGTH, rec, header) {
-        return Header::Malformed(20);
     }
     spare_bits(form, s, rec)
 }
@@ -196,23 +195,40 @@ fn agrees(from: usize, to: usize, a: &[u8], b: &[u8]) -> bool
     true
 }
 
-// The header of a set's records.
-pub fn header_of(form: Form, s: Set) -> [u8; HEADER_LENGTH]
-    ensures { λ r. ⌜ r ≡ headerOf form s ⌝ }
+// The header of a set's records up to the key number.
+fn fields_of(form: Form, s: Set) -> [u8; KEY_OFFSET]
+    ensures { λ r. ⌜ r ≡ fieldsOf form s ⌝ }
 {
     let letters = form.letters();
-    let mut header = [0u8; HEADER_LENGTH];
-    header[0] = letters[0];
-    header[1] = letters[1];
-    header[2] = letters[2];
-    header[3] = letters[3];
-    header[4] = s.number() as u8;
-    put_number(&mut header, 6, Set::DIMENSION as u16);
-    put_number(&mut header, 8, Z1_OFFSET as u16);
-    put_number(&mut header, 10, Set::DIMENSION as u16);
-    put_number(&mut header, 12, form.z2_offset() as u16);
-    put_number(&mut header, 14, s.kappa() as u16);
-    put_number(&mut header, 16, form.list_offset() as u16);
-    put_number(&mut header, 18, form.total(s) as u16);
-    header
+    let mut fields = [0u8; KEY_OFFSET];
+    fields[0] = letters[0];
+    fields[1] = letters[1];
+    fields[2] = letters[2];
+    fields[3] = letters[3];
+    fields[4] = s.number() as u8;
+    put_number(&mut fields, 6, Set::DIMENSION as u16);
+    put_number(&mut fields, 8, Z1_OFFSET as u16);
+    put_number(&mut fields, 10, Set::DIMENSION as u16);
+    put_number(&mut fields, 12, form.z2_offset() as u16);
+    put_number(&mut fields, 14, s.kappa() as u16);
+    put_number(&mut fields, 16, form.list_offset() as u16);
+    put_number(&mut fields, 18, form.total(s) as u16);
+    fields
+}
+
+// The header of a record of a set, with a key number.
+pub fn put_header(form: Form, s: Set, key: u32, out: &mut [u8])
+    requires { ⌜ length (now out) ≡ headerLength ⌝ }
+    ensures { λ _. ⌜ now (out .exit) ≡ headerOf form s key ⌝ }
+{
+    byte_codes::copy(&fields_of(form, s), &mut out[0..KEY_OFFSET]);
+    byte_codes::put_number32(&mut out[KEY_OFFSET..HEADER_LENGTH], key);
+}
+
+// The key number of a record.
+pub fn key_in(rec: &[u8]) -> u32
+    requires { ⌜ headerLength ≤ length (now rec) ⌝ }
+    ensures { λ r. ⌜ r ≡ keyIn (now (rec .entry)) ⌝ }
+{
+    byte_codes::number32_in(&rec[KEY_OFFSET..HEADER_LENGTH])
 }

@@ -27,12 +27,13 @@ use Rattle.bit_codes.specs.Bits.{number, recoded, bytesFor, unpackedBits}
 use Rattle.bit_codes.proofs.Digits.{number-below, number-digits, unpacked-packed, packed-unpacked, room}
 use Rattle.bit_codes.proofs.Signs.{numbers-back, bytes-back}
 use Rattle.record_forms.specs.declared.Form.{Form}
-use Rattle.record_forms.specs.Forms.{z1BitsOf, z2BitsOf, listBitsOf, z1Offset, z2OffsetOf, listOffsetOf, totalOf}
-use Rattle.record_forms.specs.Headers.{headerOf, part}
+use Rattle.record_forms.specs.Forms.{z1BitsOf, z2BitsOf, listBitsOf, keyOffset, headerLength, z1Offset, z2OffsetOf, listOffsetOf, totalOf}
+use Rattle.record_forms.specs.Headers.{fieldsOf, headerOf, keyIn, part}
 use Rattle.record_forms.proofs.Agreement.{take-further}
 use Rattle.record_forms.proofs.Forms.{z2-after-z1, list-after-z2, z2-after, list-after, after-list, z1-bits-enough, z2-bits-enough, list-bits-enough, z1-whole, z2-whole}
 use Rattle.record_forms.proofs.Stated.{Stated}
-use Rattle.records.specs.Signatures.{Signature, signature, z1Bytes, z2Bytes, listBytes, recordOf, signatureIn, refusalOf}
+use Rattle.record_forms.proofs.KeyNumbers.{header-opens, key-back, header-again}
+use Rattle.records.specs.Signatures.{Signature, signature, z1Bytes, z2Bytes, listBytes, recordOf, signatureIn, refusalFor, refusalOf}
 use Rattle.records.proofs.Buffers.{refusal-proper, part-small}
 use Rattle.records.proofs.Forms.{Sized, upto-z1, upto-z2, upto-list, upto-end, by-pieces}
 
@@ -44,7 +45,7 @@ anywhere (x ∷ l) bound h at (suc k) = anywhere l bound h (λ j i. at (suc j) (
 -- ---- a signature that is not refused fits the bits of either form
 module _ (form : Form) (g : Signature) (kept : isDone (refusalOf g) ≡ true) where
   rule : lengthRule (g .set) (g .z1) (g .z2) ≡ Done
-  unfolding refusalOf
+  unfolding refusalFor
   rule = done-is _ (done-next ImproperList (lengthRule (g .set) (g .z1) (g .z2)) refl (properList (g .set) (g .list)) kept)
 
   pub z1-small : (k : ℕ) → 2 * natAbs (getD (g .z1) k (pos 0)) < 2 ^ z1BitsOf form
@@ -78,22 +79,29 @@ part-joined from to p y q e f =
 module _ (form : Form) (g : Signature) where
   pub z1-part : part z1Offset (z2OffsetOf form) (recordOf form g) ≡ z1Bytes form g
   z1-part =
-      ap (part z1Offset (z2OffsetOf form)) (by-pieces form g ∙ append-assoc (headerOf form (g .set) ++ z1Bytes form g) (z2Bytes form g) (listBytes form g))
-      ∙ part-joined z1Offset (z2OffsetOf form) (headerOf form (g .set)) (z1Bytes form g) (z2Bytes form g ++ listBytes form g) (upto-z1 form g) (upto-z2 form g)
+      ap (part z1Offset (z2OffsetOf form)) (by-pieces form g ∙ append-assoc (headerOf form (g .set) (g .key) ++ z1Bytes form g) (z2Bytes form g) (listBytes form g))
+      ∙ part-joined z1Offset (z2OffsetOf form) (headerOf form (g .set) (g .key)) (z1Bytes form g) (z2Bytes form g ++ listBytes form g) (upto-z1 form g) (upto-z2 form g)
 
   pub z2-part : part (z2OffsetOf form) (listOffsetOf form) (recordOf form g) ≡ z2Bytes form g
   z2-part =
       ap (part (z2OffsetOf form) (listOffsetOf form)) (by-pieces form g)
-      ∙ part-joined (z2OffsetOf form) (listOffsetOf form) (headerOf form (g .set) ++ z1Bytes form g) (z2Bytes form g) (listBytes form g) (upto-z2 form g) (upto-list form g)
+      ∙ part-joined (z2OffsetOf form) (listOffsetOf form) (headerOf form (g .set) (g .key) ++ z1Bytes form g) (z2Bytes form g) (listBytes form g) (upto-z2 form g) (upto-list form g)
 
   pub list-part : part (listOffsetOf form) (totalOf form (g .set)) (recordOf form g) ≡ listBytes form g
   list-part =
       ap (part (listOffsetOf form) (totalOf form (g .set))) (by-pieces form g ∙ sym (append-nil _))
-      ∙ part-joined (listOffsetOf form) (totalOf form (g .set)) ((headerOf form (g .set) ++ z1Bytes form g) ++ z2Bytes form g) (listBytes form g) [] (upto-list form g) (upto-end form g)
+      ∙ part-joined (listOffsetOf form) (totalOf form (g .set)) ((headerOf form (g .set) (g .key) ++ z1Bytes form g) ++ z2Bytes form g) (listBytes form g) [] (upto-list form g) (upto-end form g)
 
-  opens : take z1Offset (recordOf form g) ≡ headerOf form (g .set)
+  -- the header and what follows it
+  pub by-header : recordOf form g ≡ headerOf form (g .set) (g .key) ++ (z1Bytes form g ++ (z2Bytes form g ++ listBytes form g))
   unfolding recordOf
-  opens = simp append-assoc (take-at (headerOf form (g .set)) (z1Bytes form g ++ (z2Bytes form g ++ listBytes form g)) z1Offset (upto-z1 form g))
+  by-header = simp append-assoc refl
+
+  opens : take keyOffset (recordOf form g) ≡ fieldsOf form (g .set)
+  opens = ap (take keyOffset) by-header ∙ header-opens form (g .set) (g .key) (z1Bytes form g ++ (z2Bytes form g ++ listBytes form g))
+
+  pub key-part : g .key < 2 ^ 32 → keyIn (recordOf form g) ≡ g .key
+  key-part small = ap keyIn by-header ∙ key-back form (g .set) (g .key) (z1Bytes form g ++ (z2Bytes form g ++ listBytes form g)) small
 
   module _ (so : Sized g) (kept : isDone (refusalOf g) ≡ true) where
     -- the list's section is a number of its own bits alone
@@ -114,15 +122,16 @@ module _ (form : Form) (g : Signature) where
         }
 
     -- ---- there
-    pub signature-back : signatureIn form (g .set) (recordOf form g) ≡ g
-    signature-back =
+    pub signature-back : g .key < 2 ^ 32 → signatureIn form (g .set) (recordOf form g) ≡ g
+    signature-back small =
         parts
+        (key-part small)
         (ap (λ (l : List ℕ). map (fromComplement (z1BitsOf form)) (unpackedBits (z1BitsOf form) dimension l)) z1-part ∙ numbers-back (z1BitsOf form) dimension (g .z1) (so .z1-long) (z1-small form g kept))
         (ap (λ (l : List ℕ). map (fromComplement (z2BitsOf form)) (unpackedBits (z2BitsOf form) dimension l)) z2-part ∙ numbers-back (z2BitsOf form) dimension (g .z2) (so .z2-long) (z2-small form g kept))
         (ap (unpackedBits (listBitsOf form) (kappaOf (g .set))) list-part ∙ unpacked-packed (listBitsOf form) (kappaOf (g .set)) (g .list) (so .list-long) (list-small form g kept))
       where
-        parts : {z1 z2 : List ℤ} {list : List ℕ} → z1 ≡ g .z1 → z2 ≡ g .z2 → list ≡ g .list → signature (g .set) z1 z2 list ≡ g
-        parts e f h = rw (e, f, h)
+        parts : {key : ℕ} {z1 z2 : List ℤ} {list : List ℕ} → key ≡ g .key → z1 ≡ g .z1 → z2 ≡ g .z2 → list ≡ g .list → signature (g .set) key z1 z2 list ≡ g
+        parts d e f h = rw (d, e, f, h)
 
 -- ---- and back
 module _ {form : Form} {s : Set} {rec : List ℕ} (so : Stated form s rec) (small : (k : ℕ) → getD rec k 0 < 256) where
@@ -148,6 +157,7 @@ module _ {form : Form} {s : Set} {rec : List ℕ} (so : Stated form s rec) (smal
       let z1-back = bytes-back (z1BitsOf form) dimension (part z1Offset (z2OffsetOf form) rec) z1-long (part-small rec small z1Offset (z2OffsetOf form)) (no-spare z1Offset (z2OffsetOf form) _ z1-long (z1-whole form)) in
       let z2-back = bytes-back (z2BitsOf form) dimension (part (z2OffsetOf form) (listOffsetOf form) rec) z2-long (part-small rec small (z2OffsetOf form) (listOffsetOf form)) (no-spare (z2OffsetOf form) (listOffsetOf form) _ z2-long (z2-whole form)) in
       let list-back = packed-unpacked (listBitsOf form) (kappaOf s) (part (listOffsetOf form) (totalOf form s) rec) list-long (part-small rec small (listOffsetOf form) (totalOf form s)) (so .spare) in
-      ap₂ _++_ (ap₂ _++_ (ap₂ _++_ (sym (so .front)) z1-back ∙ sym (take-further z1Offset (z2OffsetOf form) rec (z2-after form))) z2-back
+      let front : take headerLength rec ≡ headerOf form s (keyIn rec) = header-again form s rec small (omega (arith, so .total, z2-after form, list-after form)) (so .front) in
+      ap₂ _++_ (ap₂ _++_ (ap₂ _++_ (sym front) z1-back ∙ sym (take-further z1Offset (z2OffsetOf form) rec (z2-after form))) z2-back
       ∙ sym (take-further (z2OffsetOf form) (listOffsetOf form) rec (list-after form))) list-back
       ∙ sym (take-further (listOffsetOf form) (totalOf form s) rec end) ∙ take-all (totalOf form s) rec (omega (arith, so .total))

@@ -3,13 +3,13 @@
 use mathlib.Core.Path.{_≡_, refl, sym, ap, _∙_}
 use mathlib.Core.Bool.{Bool, true, false}
 use mathlib.Core.List.{List, _++_}
-use Prim.Native.Nat.{ℕ, _≤_}
+use Prim.Native.Nat.{ℕ, _^_, _<_, _≤_}
 use native.Mathlib.Omega.{arith}
-use borrow.Author.Tests.{eq-eqb}
-use lib.IntN.{ℤ}
+use borrow.Author.Tests.{eq-eqb, ltb-true}
 use lib.ListN.{length, take, drop}
 use Rattle.laws.specs.Lists.{every}
 use Rattle.laws.specs.Refusals.{must}
+use Rattle.laws.proofs.Entries.{every-anywhere}
 use Rattle.sets.specs.declared.Set.{Set}
 use Rattle.sets.specs.Numbers.{dimension, listLimit, kappaOf, setNumberOf}
 use Rattle.answers.specs.declared.Outcome.{Outcome}
@@ -21,48 +21,49 @@ use Rattle.record_forms.specs.declared.Form.{Form}
 use Rattle.record_forms.specs.declared.Header.{Header}
 use Rattle.record_forms.specs.declared.Header.the-variants.{States, Malformed}
 use Rattle.record_forms.specs.Forms.{totalOf}
-use Rattle.record_forms.specs.Headers.{headerIn, opened}
+use Rattle.record_forms.specs.Headers.{keyIn, headerIn, opened}
 use Rattle.record_forms.proofs.Stated.{stated, states-back}
+use Rattle.record_forms.proofs.KeyNumbers.{stated-key}
 use Rattle.records.specs.Signatures.{Signature, recordOf, signatureIn, refusalOf}
 use Rattle.records.specs.Writer.{recordedTo, offered, writingOf}
-use Rattle.records.specs.Reader.{found, Buffers, keeping, readingFor, readingOf}
+use Rattle.records.specs.Reader.{Buffers, found, keeping, readingFor, readingOf}
 use Rattle.records.specs.Conversion.{conversionOf}
 use Rattle.records.proofs.Forms.{Sized}
 use Rattle.records.proofs.Back.{record-stated, signature-back}
 use Rattle.records.proofs.RoundTrip.{Recorded, recorded, recorded-back, front-back, found-well, found-named, offered-again, read-sized, record-is}
 
 -- ---- what the reader refuses, and what it reads
-module _ (from to : Form) (rec out : List ℕ) (b : Buffers) (o : Outcome) (set : ℕ) (z1 z2 : List ℤ) (list : List ℕ) (reads : readingOf from rec b ≡ found o set z1 z2 list) where
+module _ (from to : Form) (rec out : List ℕ) (b : Buffers) (o : Outcome) (set key : ℕ) (x : Buffers) (reads : readingOf from rec b ≡ found o set key x) where
   -- "a conversion gives 13, 5, 10, 11": what the reader refuses, its buffers at their lengths, the conversion refuses with the same number and place
   module _ (l1 : length (b .z1) ≡ dimension) (l2 : length (b .z2) ≡ dimension) (l3 : length (b .list) ≡ listLimit) (refused : numberOf o ≡ 0 → ⊥) where
-    by-refusal : (d : Bool) (p : Outcome) (n : ℕ) (x y : List ℤ) (l : List ℕ) (next : Filled) → must d (keeping b p) (found Done n x y l) ≡ found o set z1 z2 list
+    by-refusal : (d : Bool) (p : Outcome) (n k : ℕ) (y : Buffers) (next : Filled) → must d (keeping b p) (found Done n k y) ≡ found o set key x
         → must d (filled p out) next ≡ filled o out
-    by-refusal false p n x y l next e = let same : p ≡ o = cc in ap (λ (p : Outcome). filled p out) same
-    by-refusal true p n x y l next e = let same : Done ≡ o = cc in absurd (refused (ap numberOf (sym same)))
+    by-refusal false p n k y next e = let same : p ≡ o = cc in ap (λ (p : Outcome). filled p out) same
+    by-refusal true p n k y next e = let same : Done ≡ o = cc in absurd (refused (ap numberOf (sym same)))
 
-    by-header : (h : Header) → opened h (λ place. keeping b (HeaderMalformed place)) (λ s. readingFor from s rec b) ≡ found o set z1 z2 list
+    by-header : (h : Header) → opened h (λ place. keeping b (HeaderMalformed place)) (λ s. readingFor from s rec b) ≡ found o set key x
         → opened h (λ place. filled (HeaderMalformed place) out) (λ s. recordedTo to (signatureIn from s rec) out) ≡ filled o out
     unfolding readingFor recordedTo
     by-header (Malformed place) e = let same : HeaderMalformed place ≡ o = cc in ap (λ (p : Outcome). filled p out) same
-    by-header (States s) e = by-refusal (isDone (refusalOf (signatureIn from s rec))) (refusalOf (signatureIn from s rec)) _ _ _ _ _ e
+    by-header (States s) e = by-refusal (isDone (refusalOf (signatureIn from s rec))) (refusalOf (signatureIn from s rec)) _ _ _ _ e
 
     pub conversion-refuses : conversionOf from to rec out ≡ filled o out
     unfolding conversionOf readingOf
     conversion-refuses = by-header (headerIn from rec) (sym (rw (eq-eqb _ _ l1, eq-eqb _ _ l2, eq-eqb _ _ l3)) ∙ reads)
 
   -- "then 14": what the reader reads the conversion leaves to the writer of the other form, which is offered just that, whatever the output is
-  pub conversion-writes : numberOf o ≡ 0 → (s : Set) × (set ≡ setNumberOf s) × (conversionOf from to rec out ≡ writingOf to (offered set z1 z2 (take (kappaOf s) list)) out)
+  pub conversion-writes : numberOf o ≡ 0 → (s : Set) × (set ≡ setNumberOf s) × (conversionOf from to rec out ≡ writingOf to (offered set key (x .z1) (x .z2) (take (kappaOf s) (x .list))) out)
   unfolding conversionOf
   conversion-writes zero =
-      let r = found-well from rec b set z1 z2 list (reads ∙ ap (λ (p : Outcome). found p set z1 z2 list) (zero-is o zero)) in
-      (r .s, found-named from to rec b set z1 z2 list r, rw (r .header) (sym (offered-again from to rec b set z1 z2 list r out)))
+      let r = found-well from rec b set key x (reads ∙ ap (λ (p : Outcome). found p set key x) (zero-is o zero)) in
+      (r .s, found-named from to rec b set key x r, rw (r .header) (sym (offered-again from to rec b set key x r out)))
 
 -- "packing gives the bytes that the packed writer makes of the same signature, unpacking those of the plain writer": of the record of a signature a conversion
 -- leaves behind what the writer of the other form leaves of that signature, whatever the output is
-module _ (from to : Form) (g : Signature) (so : Sized g) (kept : isDone (refusalOf g) ≡ true) where
+module _ (from to : Form) (g : Signature) (so : Sized g) (kept : isDone (refusalOf g) ≡ true) (small : g .key < 2 ^ 32) where
   pub converts : (out : List ℕ) → conversionOf from to (recordOf from g) out ≡ recordedTo to g out
   unfolding conversionOf
-  converts out = rw (states-back (record-stated from g so kept)) (ap (λ (h : Signature). recordedTo to h out) (signature-back from g so kept))
+  converts out = rw (states-back (record-stated from g so kept)) (ap (λ (h : Signature). recordedTo to h out) (signature-back from g so kept small))
 
 -- ---- there and back
 
@@ -100,7 +101,9 @@ converted-back from to rec bytes out o out′ zero e =
     let g = signatureIn from s rec in
     let so = read-sized from s rec in
     let kept = c .recorded .kept in
-    let total : length rec ≡ totalOf from s = stated from rec (c .header) .total in
+    let stated = stated from rec (c .header) in
+    let total : length rec ≡ totalOf from s = stated .total in
+    let small : keyIn rec < 2 ^ 32 = stated-key stated (λ k. ltb-true _ _ (every-anywhere isByte rec k 0 bytes refl)) in
     let front : take (totalOf to s) out′ ≡ recordOf to g = front-back to g so kept out out′ (c .recorded .is) in
     record {
       s = s;
@@ -109,7 +112,7 @@ converted-back from to rec bytes out o out′ zero e =
         Done,
         refl,
         rw (front, total)
-            (converts to from g so kept again
+            (converts to from g so kept small again
             ∙ recorded-back from g again kept (rw (← total) room)
             ∙ ap (λ (l : List ℕ). filled Done (l ++ drop (totalOf from s) again)) (record-is from s rec (c .header) bytes)),
       );

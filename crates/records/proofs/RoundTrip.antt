@@ -3,7 +3,7 @@
 use mathlib.Core.Path.{_≡_, refl, sym, ap, _∙_}
 use mathlib.Core.Bool.{true, false}
 use mathlib.Core.List.{List, _++_, map}
-use Prim.Native.Nat.{ℕ, _+_, _≤_}
+use Prim.Native.Nat.{ℕ, _+_, _^_, _<_, _≤_}
 use borrow.Author.Tests.{eq-eqb, eqb-true, le-leb, leb-true, ltb-true}
 use lib.Dec.{eqb, leb}
 use lib.IntN.{ℤ}
@@ -29,31 +29,32 @@ use Rattle.record_forms.specs.declared.Form.the-variants.{Plain}
 use Rattle.record_forms.specs.declared.Header.{Header}
 use Rattle.record_forms.specs.declared.Header.the-variants.{States, Malformed}
 use Rattle.record_forms.specs.Forms.{z1BitsOf, z2BitsOf, listBitsOf, z1Offset, z2OffsetOf, listOffsetOf, totalOf}
-use Rattle.record_forms.specs.Headers.{part, headerIn, opened}
+use Rattle.record_forms.specs.Headers.{keyIn, part, headerIn, opened}
 use Rattle.record_forms.specs.Sections.{fetched, sectionOf, z1Section, z2Section, listSection}
 use Rattle.record_forms.proofs.Stated.{stated, states-back}
 use Rattle.records.specs.Signatures.{Signature, signature, z1Bytes, z2Bytes, listBytes, recordOf, signatureIn, refusalOf}
 use Rattle.records.specs.Writer.{putTo, recordedTo, writingFor, Offered, offered, writingOf}
-use Rattle.records.specs.Reader.{Found, found, Buffers, keeping, readingFor, readingOf}
+use Rattle.records.specs.Reader.{Buffers, buffers, Found, found, keeping, readingFor, readingOf}
 use Rattle.records.proofs.Buffers.{proper-length}
 use Rattle.records.proofs.Forms.{Sized}
 use Rattle.records.proofs.Back.{z1-part, z2-part, list-part, record-stated, signature-back, record-back}
 
--- What was written is a record, the first bytes of the output: it reads as the same set, after the rule for 0, z1, z2 dagger and list, whatever the
--- buffers held.
+-- What was written is a record, the first bytes of the output: it reads as the same set, after the rule for 0, key number, z1, z2 dagger and list, whatever
+-- the buffers held.
 pub record ReadsBack (form : Form) (a : Offered) (out : List ℕ) : Type 0 where
   pub s : Set
   pub asked : askedOf (a .set) ≡ Known s
   pub reads : (b : Buffers) → length (b .z1) ≡ dimension → length (b .z2) ≡ dimension → length (b .list) ≡ listLimit
-      → (o : Outcome) × (numberOf o ≡ 0) × (readingOf form (take (totalOf form s) out) b ≡ found o (setNumberOf s) (a .z1) (a .z2) (a .list ++ drop (kappaOf s) (b .list)))
+      → (o : Outcome) × (numberOf o ≡ 0)
+      × (readingOf form (take (totalOf form s) out) b ≡ found o (setNumberOf s) (a .key) (buffers (a .z1) (a .z2) (a .list ++ drop (kappaOf s) (b .list))))
 
 -- And the section calls answer the sections of a plain one, wherever it lies.
 pub record SectionsBack (a : Offered) (out : List ℕ) : Type 0 where
   pub s : Set
   pub asked : askedOf (a .set) ≡ Known s
-  pub z1-section : (p : ℕ × ℕ) → z1Section p (take (totalOf Plain s) out) ≡ fetched (p .0, z1Offset + p .1) (z1Bytes Plain (signature s (a .z1) (a .z2) (a .list))) 0 0
-  pub z2-section : (p : ℕ × ℕ) → z2Section p (take (totalOf Plain s) out) ≡ fetched (p .0, z2OffsetOf Plain + p .1) (z2Bytes Plain (signature s (a .z1) (a .z2) (a .list))) 0 0
-  pub list-section : (p : ℕ × ℕ) → listSection p (take (totalOf Plain s) out) ≡ fetched (p .0, listOffsetOf Plain + p .1) (listBytes Plain (signature s (a .z1) (a .z2) (a .list))) 0 0
+  pub z1-section : (p : ℕ × ℕ) → z1Section p (take (totalOf Plain s) out) ≡ fetched (p .0, z1Offset + p .1) (z1Bytes Plain (signature s (a .key) (a .z1) (a .z2) (a .list))) 0 0
+  pub z2-section : (p : ℕ × ℕ) → z2Section p (take (totalOf Plain s) out) ≡ fetched (p .0, z2OffsetOf Plain + p .1) (z2Bytes Plain (signature s (a .key) (a .z1) (a .z2) (a .list))) 0 0
+  pub list-section : (p : ℕ × ℕ) → listSection p (take (totalOf Plain s) out) ≡ fetched (p .0, listOffsetOf Plain + p .1) (listBytes Plain (signature s (a .key) (a .z1) (a .z2) (a .list))) 0 0
 
 -- What was read is a signature, its list the first entries of the buffer: the writer makes the record of it again, byte for byte, at the front of any
 -- output that is long enough.
@@ -61,7 +62,7 @@ pub record WritesBack (form : Form) (rec : List ℕ) (a : Offered) : Type 0 wher
   pub s : Set
   pub named : a .set ≡ setNumberOf s
   pub writes : (out : List ℕ) → totalOf form s ≤ length out
-      → (o : Outcome) × (numberOf o ≡ 0) × (writingOf form (offered (a .set) (a .z1) (a .z2) (take (kappaOf s) (a .list))) out ≡ filled o (rec ++ drop (totalOf form s) out))
+      → (o : Outcome) × (numberOf o ≡ 0) × (writingOf form (offered (a .set) (a .key) (a .z1) (a .z2) (take (kappaOf s) (a .list))) out ≡ filled o (rec ++ drop (totalOf form s) out))
 
 -- ---- what a call passed that is done
 not-done : {o : Outcome} → isDone o ≡ false → o ≡ Done → ⊥
@@ -105,14 +106,14 @@ wrote form g out out′ e =
 
 -- ---- there
 module _ (form : Form) (g : Signature) (so : Sized g) (kept : isDone (refusalOf g) ≡ true) where
-  pub reads-back : (b : Buffers) → length (b .z1) ≡ dimension → length (b .z2) ≡ dimension → length (b .list) ≡ listLimit
-      → readingOf form (recordOf form g) b ≡ found Done (setNumberOf (g .set)) (g .z1) (g .z2) (g .list ++ drop (kappaOf (g .set)) (b .list))
+  pub reads-back : g .key < 2 ^ 32 → (b : Buffers) → length (b .z1) ≡ dimension → length (b .z2) ≡ dimension → length (b .list) ≡ listLimit
+      → readingOf form (recordOf form g) b ≡ found Done (setNumberOf (g .set)) (g .key) (buffers (g .z1) (g .z2) (g .list ++ drop (kappaOf (g .set)) (b .list)))
   unfolding readingOf readingFor
-  reads-back b l1 l2 l3 =
+  reads-back small b l1 l2 l3 =
       rw (eq-eqb _ _ l1, eq-eqb _ _ l2, eq-eqb _ _ l3, states-back (record-stated form g so kept))
       (ap
-      (λ (h : Signature). unless (refusalOf h) (keeping b) (found Done (setNumberOf (g .set)) (h .z1) (h .z2) (h .list ++ drop (kappaOf (g .set)) (b .list))))
-      (signature-back form g so kept)
+      (λ (h : Signature). unless (refusalOf h) (keeping b) (found Done (setNumberOf (g .set)) (h .key) (buffers (h .z1) (h .z2) (h .list ++ drop (kappaOf (g .set)) (b .list)))))
+      (signature-back form g so kept small)
       ∙ rw kept)
 
   -- the record at the front of an output
@@ -127,7 +128,7 @@ module _ (g : Signature) (so : Sized g) (kept : isDone (refusalOf g) ≡ true) w
 -- what was written, by the set that was asked for
 module _ (form : Form) (a : Offered) (out out′ : List ℕ) where
   abbrev of : Set → Signature
-  of s = signature s (a .z1) (a .z2) (a .list)
+  of s = signature s (a .key) (a .z1) (a .z2) (a .list)
 
   pub record Written : Type 0 where
     pub s : Set
@@ -152,13 +153,15 @@ module _ (form : Form) (a : Offered) (out out′ : List ℕ) where
             front = front-back form (of s) (w .sized) (w .recorded .kept) out out′ (w .recorded .is);
           }
 
-pub written-reads : (form : Form) (a : Offered) (out : List ℕ) (o : Outcome) (out′ : List ℕ) → numberOf o ≡ 0 → writingOf form a out ≡ filled o out′ → ReadsBack form a out′
-written-reads form a out o out′ zero e =
+-- the key number has its four bytes
+pub written-reads : (form : Form) (a : Offered) (out : List ℕ) (o : Outcome) (out′ : List ℕ) → a .key < 2 ^ 32 → numberOf o ≡ 0 → writingOf form a out ≡ filled o out′
+    → ReadsBack form a out′
+written-reads form a out o out′ small zero e =
     let w = written form a out out′ o zero e in
     record {
       s = w .s;
       asked = w .asked;
-      reads = λ b l1 l2 l3. (Done, refl, rw (w .front) (reads-back form (of form a out out′ (w .s)) (w .sized) (w .kept) b l1 l2 l3));
+      reads = λ b l1 l2 l3. (Done, refl, rw (w .front) (reads-back form (of form a out out′ (w .s)) (w .sized) (w .kept) small b l1 l2 l3));
     }
 
 pub written-sections : (a : Offered) (out : List ℕ) (o : Outcome) (out′ : List ℕ) → numberOf o ≡ 0 → writingOf Plain a out ≡ filled o out′ → SectionsBack a out′
@@ -176,7 +179,7 @@ written-sections a out o out′ zero e =
     }
 
 -- ---- and back
-refused-read : {o : Outcome} {n m : ℕ} {x x′ y y′ : List ℤ} {l l′ : List ℕ} → isDone o ≡ false → found o n x y l ≡ found Done m x′ y′ l′ → ⊥
+refused-read : {o : Outcome} {n n′ k k′ : ℕ} {x x′ : Buffers} → isDone o ≡ false → found o n k x ≡ found Done n′ k′ x′ → ⊥
 refused-read {o} e f = let same : o ≡ Done = cc in not-done e same
 
 -- what a reader passed that is done
@@ -184,20 +187,21 @@ pub record FoundWell (form : Form) (rec : List ℕ) (b : Buffers) (x : Found) : 
   pub s : Set
   pub header : headerIn form rec ≡ States s
   pub kept : isDone (refusalOf (signatureIn form s rec)) ≡ true
-  pub is : found Done (setNumberOf s) (signatureIn form s rec .z1) (signatureIn form s rec .z2) (signatureIn form s rec .list ++ drop (kappaOf s) (b .list)) ≡ x
+  pub is : found Done (setNumberOf s) (signatureIn form s rec .key)
+      (buffers (signatureIn form s rec .z1) (signatureIn form s rec .z2) (signatureIn form s rec .list ++ drop (kappaOf s) (b .list))) ≡ x
 
-pub found-well : (form : Form) (rec : List ℕ) (b : Buffers) (set : ℕ) (z1 z2 : List ℤ) (list : List ℕ) → readingOf form rec b ≡ found Done set z1 z2 list
-    → FoundWell form rec b (found Done set z1 z2 list)
+pub found-well : (form : Form) (rec : List ℕ) (b : Buffers) (set key : ℕ) (x : Buffers) → readingOf form rec b ≡ found Done set key x
+    → FoundWell form rec b (found Done set key x)
 unfolding readingOf readingFor
-found-well form rec b set z1 z2 list e =
+found-well form rec b set key x e =
     let refusal = keeping b WrongLength in
     let (l1, e1) = through (eqb (length (b .z1)) dimension) refusal _ _ (λ t. refused-read refl) e in
     let (l2, e2) = through (eqb (length (b .z2)) dimension) refusal _ _ (λ t. refused-read refl) e1 in
     let (l3, e3) = through (eqb (length (b .list)) listLimit) refusal _ _ (λ t. refused-read refl) e2 in
     by-header (headerIn form rec) refl e3
   where
-    by-header : (h : Header) → headerIn form rec ≡ h → opened h (λ place. keeping b (HeaderMalformed place)) (λ s. readingFor form s rec b) ≡ found Done set z1 z2 list
-        → FoundWell form rec b (found Done set z1 z2 list)
+    by-header : (h : Header) → headerIn form rec ≡ h → opened h (λ place. keeping b (HeaderMalformed place)) (λ s. readingFor form s rec b) ≡ found Done set key x
+        → FoundWell form rec b (found Done set key x)
     by-header (Malformed place) h e = absurd (refused-read refl e)
     by-header (States s) h e =
         let (kept, e′) = through (isDone (refusalOf (signatureIn form s rec))) (keeping b (refusalOf (signatureIn form s rec))) _ _ refused-read e in
@@ -225,33 +229,39 @@ unfolding writingFor
 writes-on from to s rec out = let so = read-sized from s rec in rw (eq-eqb _ _ (so .z1-long), eq-eqb _ _ (so .z2-long))
 
 -- what was read, offered to a writer
-module _ (from to : Form) (rec : List ℕ) (b : Buffers) (set : ℕ) (z1 z2 : List ℤ) (list : List ℕ) (r : FoundWell from rec b (found Done set z1 z2 list)) where
-  same : {n n′ : ℕ} {x x′ y y′ : List ℤ} {l l′ : List ℕ} → found Done n x y l ≡ found Done n′ x′ y′ l′ → (n′ ≡ n) × (x′ ≡ x) × (y′ ≡ y) × (l′ ≡ l)
-  same e = (cc, cc, cc, cc)
+module _ (from to : Form) (rec : List ℕ) (b : Buffers) (set key : ℕ) (x : Buffers) (r : FoundWell from rec b (found Done set key x)) where
+  same : {n n′ k k′ : ℕ} {x x′ : Buffers} → found Done n k x ≡ found Done n′ k′ x′ → (n′ ≡ n) × (k′ ≡ k) × (x′ ≡ x)
+  same e = (cc, cc, cc)
 
   pub found-named : set ≡ setNumberOf (r .s)
   found-named = same (r .is) .0
 
-  found-list : take (kappaOf (r .s)) list ≡ signatureIn from (r .s) rec .list
+  pub found-key : key ≡ keyIn rec
+  found-key = same (r .is) .1
+
+  found-list : take (kappaOf (r .s)) (x .list) ≡ signatureIn from (r .s) rec .list
   found-list =
-      ap (take (kappaOf (r .s))) (same (r .is) .3)
+      ap (λ (y : Buffers). take (kappaOf (r .s)) (y .list)) (same (r .is) .2)
       ∙ take-at (signatureIn from (r .s) rec .list) (drop (kappaOf (r .s)) (b .list)) (kappaOf (r .s)) (read-sized from (r .s) rec .list-long)
 
-  pub offered-again : (out : List ℕ) → writingOf to (offered set z1 z2 (take (kappaOf (r .s)) list)) out ≡ recordedTo to (signatureIn from (r .s) rec) out
+  pub offered-again : (out : List ℕ) → writingOf to (offered set key (x .z1) (x .z2) (take (kappaOf (r .s)) (x .list))) out ≡ recordedTo to (signatureIn from (r .s) rec) out
   unfolding writingOf
-  offered-again out = rw (found-named, same (r .is) .1, same (r .is) .2, found-list, asked-back (r .s)) (writes-on from to (r .s) rec out)
+  offered-again out =
+      let z1 : x .z1 ≡ signatureIn from (r .s) rec .z1 = ap (λ (y : Buffers). y .z1) (same (r .is) .2) in
+      let z2 : x .z2 ≡ signatureIn from (r .s) rec .z2 = ap (λ (y : Buffers). y .z2) (same (r .is) .2) in
+      rw (found-list, found-named, found-key, z1, z2, asked-back (r .s)) (writes-on from to (r .s) rec out)
 
-pub read-writes : (form : Form) (rec : List ℕ) → every isByte rec ≡ true → (b : Buffers) (o : Outcome) (set : ℕ) (z1 z2 : List ℤ) (list : List ℕ)
-    → numberOf o ≡ 0 → readingOf form rec b ≡ found o set z1 z2 list → WritesBack form rec (offered set z1 z2 list)
-read-writes form rec bytes b o set z1 z2 list zero e =
-    let r = found-well form rec b set z1 z2 list (e ∙ ap (λ (p : Outcome). found p set z1 z2 list) (zero-is o zero)) in
+pub read-writes : (form : Form) (rec : List ℕ) → every isByte rec ≡ true → (b : Buffers) (o : Outcome) (set key : ℕ) (x : Buffers)
+    → numberOf o ≡ 0 → readingOf form rec b ≡ found o set key x → WritesBack form rec (offered set key (x .z1) (x .z2) (x .list))
+read-writes form rec bytes b o set key x zero e =
+    let r = found-well form rec b set key x (e ∙ ap (λ (p : Outcome). found p set key x) (zero-is o zero)) in
     record {
       s = r .s;
-      named = found-named form form rec b set z1 z2 list r;
+      named = found-named form form rec b set key x r;
       writes = λ out room. (
         Done,
         refl,
-        offered-again form form rec b set z1 z2 list r out ∙ recorded-back form (signatureIn form (r .s) rec) out (r .kept) room
+        offered-again form form rec b set key x r out ∙ recorded-back form (signatureIn form (r .s) rec) out (r .kept) room
             ∙ ap (λ (l : List ℕ). filled Done (l ++ drop (totalOf form (r .s)) out)) (record-is form (r .s) rec (r .header) bytes),
       );
     }

@@ -1,4 +1,5 @@
--- The conversions, packing (plain to packed) and unpacking (packed to plain): a record and an output, refusals 13, 5, 10, 11, then 14 (02, C-11).
+-- The conversions, packing (plain to packed) and unpacking (packed to plain): a record and an output, refusals 13, 5, 10, 11, then 14 (02, C-11). The key
+-- number is kept (02, C-13), as all of the signature is.
 use mathlib.Core.List.{List}
 use Prim.Native.Nat.{ℕ}
 use Rattle.answers.specs.declared.Outcome.the-variants.{HeaderMalformed}

@@ -1,4 +1,4 @@
--- The readers: refusals 2, 13, 5, 10, 11 (01, "The record", "Numbers that come back"; 02, C-11).
+-- The readers: refusals 2, 13, 5, 10, 11 (01, "The record", "Numbers that come back"; 02, C-11, C-13).
 use mathlib.Core.List.{List, _++_}
 use Prim.Native.Nat.{ℕ}
 use lib.Dec.{eqb}
@@ -15,11 +15,7 @@ use Rattle.record_forms.specs.declared.Form.{Form}
 use Rattle.record_forms.specs.Headers.{headerIn, opened}
 use Rattle.records.specs.Signatures.{signatureIn, refusalOf}
 
--- what a reader leaves behind: its answer, the set, and the buffers of z1, z2 dagger and the list
-pub data Found : Type 0 where
-  found : Outcome → ℕ → List ℤ → List ℤ → List ℕ → Found
-
--- the three buffers as they came
+-- the buffers of z1, z2 dagger and the list
 pub record Buffers : Type 0 where
   pub z1 : List ℤ
   pub z2 : List ℤ
@@ -28,15 +24,20 @@ pub record Buffers : Type 0 where
 abbrev pub buffers : List ℤ → List ℤ → List ℕ → Buffers
 buffers z1 z2 list = record { z1 = z1; z2 = z2; list = list }
 
--- a refusal: the set is 0
+-- what a reader leaves behind: its answer, the set, the key number, and the buffers
+pub data Found : Type 0 where
+  found : Outcome → ℕ → ℕ → Buffers → Found
+
+-- a refusal: set and key number are 0, and the buffers as they came
 abbrev pub keeping : Buffers → Outcome → Found
-keeping b o = found o 0 (b .z1) (b .z2) (b .list)
+keeping b o = found o 0 0 b
 
 -- the list's entries after kappa keep their old contents
 unfoldable pub readingFor : Form → Set → List ℕ → Buffers → Found
 readingFor form s rec b =
     unless (refusalOf (signatureIn form s rec)) (keeping b)
-    (found Done (setNumberOf s) (signatureIn form s rec .z1) (signatureIn form s rec .z2) (signatureIn form s rec .list ++ drop (kappaOf s) (b .list)))
+    (found Done (setNumberOf s) (signatureIn form s rec .key)
+    (buffers (signatureIn form s rec .z1) (signatureIn form s rec .z2) (signatureIn form s rec .list ++ drop (kappaOf s) (b .list))))
 
 -- the lengths of the buffers, then the header
 unfoldable pub readingOf : Form → List ℕ → Buffers → Found

@@ -1,4 +1,4 @@
--- The writers: refusals 1, 2, 5, 10, 11, 14 (01, "The record", "Numbers that come back"; 02, C-11).
+-- The writers: refusals 1, 2, 5, 10, 11, 14 (01, "The record", "Numbers that come back"; 02, C-11, C-13).
 use mathlib.Core.List.{List, _++_}
 use Prim.Native.Nat.{ℕ}
 use lib.Dec.{leb}
@@ -30,15 +30,16 @@ writingFor form g out =
 -- a signature as a writer is offered it: its set by a number
 pub record Offered : Type 0 where
   pub set : ℕ
+  pub key : ℕ
   pub z1 : List ℤ
   pub z2 : List ℤ
   pub list : List ℕ
 
-abbrev pub offered : ℕ → List ℤ → List ℤ → List ℕ → Offered
-offered set z1 z2 list = record { set = set; z1 = z1; z2 = z2; list = list }
+abbrev pub offered : ℕ → ℕ → List ℤ → List ℤ → List ℕ → Offered
+offered set key z1 z2 list = record { set = set; key = key; z1 = z1; z2 = z2; list = list }
 
 -- for the set that the number stands for: called with 0 the writer writes 4 (02, C-17)
 unfoldable pub writingOf : Form → Offered → List ℕ → Filled
 writingOf form a out =
     forSet (askedOf (a .set)) (filled UnknownSet out)
-    (λ s. writingFor form (signature s (a .z1) (a .z2) (a .list)) out)
+    (λ s. writingFor form (signature s (a .key) (a .z1) (a .z2) (a .list)) out)

@@ -13,7 +13,7 @@ ghost use Rattle.byte_codes.specs.Bytes.{complement};
 ghost use Rattle.bit_codes.specs.Bits.{bytesFor, packedBits};
 ghost use Rattle.record_forms.specs.declared.Form.the-variants.{Plain, Packed};
 ghost use Rattle.record_forms.specs.Forms.{z1BitsOf, z2BitsOf, listBitsOf, totalOf};
-ghost use Rattle.records.specs.Signatures.{signature, recordOf, signatureIn, refusalOf};
+ghost use Rattle.records.specs.Signatures.{signature, recordOf, signatureIn, refusalFor};
 ghost use Rattle.records.specs.Writer.{putTo, recordedTo, writingFor, offered, writingOf};
 ghost use Rattle.records.specs.Reader.{found, buffers, readingFor, readingOf};
 ghost use Rattle.records.specs.Conversion.{conversionOf};
@@ -29,26 +29,43 @@ pub use record_forms::z2_section;
 use sets::Asked;
 use sets::Set;
 
-// What the reader answers: the set is 0 when it refuses.
+// What the reader answers: the set and the key number are 0 when it refuses.
 pub struct Reading {
     pub outcome: Outcome,
     pub set: u32,
+    pub key: u32,
 }
 
 // ---- the writer
 
 // Writes the record of a signature to the front of the output.
-pub fn write(form: Form, set: u32, z1: &[i16], z2: &[i8], list: &[u16], out: &mut [u8]) -> Outcome
-    ensures { λ r. ⌜ filled r (now (out .exit)) ≡ writingOf form (offered set (now (z1 .entry)) (now (z2 .entry)) (now (list .entry))) (now (out .entry)) ⌝ }
+pub fn write(
+    form: Form,
+    set: u32,
+    key: u32,
+    z1: &[i16],
+    z2: &[i8],
+    list: &[u16],
+    out: &mut [u8],
+) -> Outcome
+    ensures { λ r. ⌜ filled r (now (out .exit)) ≡ writingOf form (offered set key (now (z1 .entry)) (now (z2 .entry)) (now (list .entry))) (now (out .entry)) ⌝ }
 {
     match Set::asked(set) {
         Asked::Unknown => Outcome::UnknownSet,
-        Asked::Known(s) => write_for(form, s, z1, z2, list, out),
+        Asked::Known(s) => write_for(form, s, key, z1, z2, list, out),
     }
 }
 
-fn write_for(form: Form, s: Set, z1: &[i16], z2: &[i8], list: &[u16], out: &mut [u8]) -> Outcome
-    ensures { λ r. ⌜ filled r (now (out .exit)) ≡ writingFor form (signature s (now (z1 .entry)) (now (z2 .entry)) (now (list .entry))) (now (out .entry)) ⌝ }
+fn write_for(
+    form: Form,
+    s: Set,
+    key: u32,
+    z1: &[i16],
+    z2: &[i8],
+    list: &[u16],
+    out: &mut [u8],
+) -> Outcome
+    ensures { λ r. ⌜ filled r (now (out .exit)) ≡ writingFor form (signature s key (now (z1 .entry)) (now (z2 .entry)) (now (list .entry))) (now (out .entry)) ⌝ }
 {
     if z1.len() != Set::DIMENSION {
         return Outcome::WrongLength;
@@ -60,13 +77,13 @@ fn write_for(form: Form, s: Set, z1: &[i16], z2: &[i8], list: &[u16], out: &mut 
     if !refusal.is_done() {
         return refusal;
     }
-    put(form, s, z1, z2, list, out)
+    put(form, s, key, z1, z2, list, out)
 }
 
 // The form of the list, then the length rule.
 fn refusal_of(s: Set, z1: &[i16], z2: &[i8], list: &[u16]) -> Outcome
     requires { ⌜ (length (now z1) ≡ dimension) × (length (now z2) ≡ dimension) ⌝ }
-    ensures { λ r. ⌜ r ≡ refusalOf (signature s (now (z1 .entry)) (now (z2 .entry)) (now (list .entry))) ⌝ }
+    ensures { λ r. ⌜ r ≡ refusalFor s (now (z1 .entry)) (now (z2 .entry)) (now (list .entry)) ⌝ }
 {
     if !vectors::is_proper(s, list) {
         return Outcome::ImproperList;
@@ -75,26 +92,26 @@ fn refusal_of(s: Set, z1: &[i16], z2: &[i8], list: &[u16]) -> Outcome
 }
 
 // The record of a signature that is not refused, where there is room.
-fn put(form: Form, s: Set, z1: &[i16], z2: &[i8], list: &[u16], out: &mut [u8]) -> Outcome
-    requires { ⌜ (length (now z1) ≡ dimension) × (length (now z2) ≡ dimension) × (isDone (refusalOf (signature s (now z1) (now z2) (now list))) ≡ true) ⌝ }
-    ensures { λ r. ⌜ filled r (now (out .exit)) ≡ putTo form (signature s (now (z1 .entry)) (now (z2 .entry)) (now (list .entry))) (now (out .entry)) ⌝ }
+fn put(form: Form, s: Set, key: u32, z1: &[i16], z2: &[i8], list: &[u16], out: &mut [u8]) -> Outcome
+    requires { ⌜ (length (now z1) ≡ dimension) × (length (now z2) ≡ dimension) × (isDone (refusalFor s (now z1) (now z2) (now list)) ≡ true) ⌝ }
+    ensures { λ r. ⌜ filled r (now (out .exit)) ≡ putTo form (signature s key (now (z1 .entry)) (now (z2 .entry)) (now (list .entry))) (now (out .entry)) ⌝ }
 {
     if out.len() < form.total(s) {
         return Outcome::OutputShort;
     }
-    pack(form, s, z1, z2, list, out);
+    pack(form, s, key, z1, z2, list, out);
     Outcome::Done
 }
 
 // The header and the three sections, one after the other.
-fn pack(form: Form, s: Set, z1: &[i16], z2: &[i8], list: &[u16], out: &mut [u8])
-    requires { ⌜ (length (now z1) ≡ dimension) × (length (now z2) ≡ dimension) × (isDone (refusalOf (signature s (now z1) (now z2) (now list))) ≡ true) × (totalOf form s ≤ length (now out)) ⌝ }
-    ensures { λ _. ⌜ now (out .exit) ≡ recordOf form (signature s (now (z1 .entry)) (now (z2 .entry)) (now (list .entry))) ++ drop (totalOf form s) (now (out .entry)) ⌝ }
+fn pack(form: Form, s: Set, key: u32, z1: &[i16], z2: &[i8], list: &[u16], out: &mut [u8])
+    requires { ⌜ (length (now z1) ≡ dimension) × (length (now z2) ≡ dimension) × (isDone (refusalFor s (now z1) (now z2) (now list)) ≡ true) × (totalOf form s ≤ length (now out)) ⌝ }
+    ensures { λ _. ⌜ now (out .exit) ≡ recordOf form (signature s key (now (z1 .entry)) (now (z2 .entry)) (now (list .entry))) ++ drop (totalOf form s) (now (out .entry)) ⌝ }
 {
     let z2_at = form.z2_offset();
     let list_at = form.list_offset();
     let total = form.total(s);
-    byte_codes::copy(&record_forms::header_of(form, s), &mut out[0..Z1_OFFSET]);
+    record_forms::put_header(form, s, key, &mut out[0..Z1_OFFSET]);
     pack_z1(form, z1, &mut out[Z1_OFFSET..z2_at]);
     pack_z2(form, z2, &mut out[z2_at..list_at]);
     pack_list(form, list, &mut out[list_at..total]);
@@ -153,7 +170,7 @@ fn pack_narrow_bits(z: &[i8], width: usize, out: &mut [u8])
 
 // Reads a record into the three buffers, of 512, 512 and as many entries as any list has.
 pub fn read(form: Form, rec: &[u8], z1: &mut [i16], z2: &mut [i8], list: &mut [u16]) -> Reading
-    ensures { λ r. ⌜ found (r .outcome) (r .set) (now (z1 .exit)) (now (z2 .exit)) (now (list .exit)) ≡ readingOf form (now (rec .entry)) (buffers (now (z1 .entry)) (now (z2 .entry)) (now (list .entry))) ⌝ }
+    ensures { λ r. ⌜ found (r .outcome) (r .set) (r .key) (buffers (now (z1 .exit)) (now (z2 .exit)) (now (list .exit))) ≡ readingOf form (now (rec .entry)) (buffers (now (z1 .entry)) (now (z2 .entry)) (now (list .entry))) ⌝ }
 {
     if z1.len() != Set::DIMENSION {
         return refused(Outcome::WrongLength);
@@ -171,9 +188,13 @@ pub fn read(form: Form, rec: &[u8], z1: &mut [i16], z2: &mut [i8], list: &mut [u
 }
 
 fn refused(o: Outcome) -> Reading
-    ensures { λ r. ⌜ (r .outcome ≡ o) × (r .set ≡ 0) ⌝ }
+    ensures { λ r. ⌜ (r .outcome ≡ o) × (r .set ≡ 0) × (r .key ≡ 0) ⌝ }
 {
-    Reading { outcome: o, set: 0 }
+    Reading {
+        outcome: o,
+        set: 0,
+        key: 0,
+    }
 }
 
 // The signature goes to working vectors first: nothing is written before all tests are passed.
@@ -186,7 +207,7 @@ fn read_for(
     list: &mut [u16],
 ) -> Reading
     requires { ⌜ (length (now rec) ≡ totalOf form s) × (length (now z1) ≡ dimension) × (length (now z2) ≡ dimension) × (length (now list) ≡ listLimit) ⌝ }
-    ensures { λ r. ⌜ found (r .outcome) (r .set) (now (z1 .exit)) (now (z2 .exit)) (now (list .exit)) ≡ readingFor form s (now (rec .entry)) (buffers (now (z1 .entry)) (now (z2 .entry)) (now (list .entry))) ⌝ }
+    ensures { λ r. ⌜ found (r .outcome) (r .set) (r .key) (buffers (now (z1 .exit)) (now (z2 .exit)) (now (list .exit))) ≡ readingFor form s (now (rec .entry)) (buffers (now (z1 .entry)) (now (z2 .entry)) (now (list .entry))) ⌝ }
 {
     let mut w1 = [0i16; Set::DIMENSION];
     let mut w2 = [0i8; Set::DIMENSION];
@@ -203,6 +224,7 @@ fn read_for(
     Reading {
         outcome: Outcome::Done,
         set: s.number(),
+        key: record_forms::key_in(rec),
     }
 }
 
@@ -282,7 +304,8 @@ fn convert_plain(to: Form, s: Set, rec: &[u8], out: &mut [u8]) -> Outcome
     if !refusal.is_done() {
         return refusal;
     }
-    put(to, s, &z1, &z2, &list[..kappa], out)
+    let key = record_forms::key_in(rec);
+    put(to, s, key, &z1, &z2, &list[..kappa], out)
 }
 
 fn convert_packed(to: Form, s: Set, rec: &[u8], out: &mut [u8]) -> Outcome
@@ -298,5 +321,6 @@ fn convert_packed(to: Form, s: Set, rec: &[u8], out: &mut [u8]) -> Outcome
     if !refusal.is_done() {
         return refusal;
     }
-    put(to, s, &z1, &z2, &list[..kappa], out)
+    let key = record_forms::key_in(rec);
+    put(to, s, key, &z1, &z2, &list[..kappa], out)
 }

@@ -1,5 +1,5 @@
 // The calls on records of every set, plain and packed: a header damaged byte by byte, every length, entries at the limits and past them, improper lists, spare
-// bits, buffers of the wrong length, the other form's record. The crate record_calls makes the calls and prints a line for each.
+// bits, buffers of the wrong length, the other form's record, key numbers. The crate record_calls makes the calls and prints a line for each.
 ghost use mathlib.Core.Path.{_≡_};
 ghost use lib.ListN.{length};
 ghost use Rattle.sets.specs.Numbers.{listLimit};
@@ -18,6 +18,7 @@ fn main() {
     lists();
     buffers();
     packed_records();
+    key_numbers();
 }
 
 // ---- the cases
@@ -475,6 +476,68 @@ fn refused_unpacking(rec: &mut [u8], room: usize) {
     );
 }
 
+// ---- key numbers
+
+// Numbers that tell their bytes apart, in either form: what bytes 20 to 23 hold, what is read, and what a conversion keeps.
+fn key_numbers() {
+    record_calls::print(
+        b"---- records of set 1 with a key number, each read, converted to the other form and read again\n",
+    );
+    small_keys();
+    large_keys();
+}
+
+fn small_keys() {
+    keyed(0);
+    keyed(1);
+    keyed(255);
+    keyed(256);
+    keyed(65535);
+}
+
+fn large_keys() {
+    keyed(65536);
+    keyed(16777216);
+    keyed(67305985);
+    keyed(16909060);
+    keyed(2147483648);
+    keyed(4294967295);
+}
+
+fn keyed(key: u32) {
+    record_calls::number(b"key number ", key as u64);
+    record_calls::print(b"\n");
+    keyed_in(Form::Plain, Form::Packed, key);
+    keyed_in(Form::Packed, Form::Plain, key);
+}
+
+fn keyed_in(form: Form, other: Form, key: u32) {
+    let mut rec = record_calls::bytes_of(0);
+    let mut out = record_calls::bytes_of(165);
+    fill_keyed(form, 1, key, &mut rec);
+    let lent = record_calls::front(&rec, record_calls::total_of(form, 1));
+    key_bytes(lent);
+    record_calls::reading(form, lent, 512, 512, Set::LIST_LIMIT);
+    record_calls::converting(form, other, lent, ROOM, &mut out);
+    let converted = record_calls::front(&out, record_calls::total_of(other, 1));
+    key_bytes(converted);
+    record_calls::reading(other, converted, 512, 512, Set::LIST_LIMIT);
+}
+
+fn key_bytes(rec: &[u8]) {
+    if 24 <= rec.len() {
+        key_byte(b"  bytes 20 to 23 are ", rec[20]);
+        key_byte(b", ", rec[21]);
+        key_byte(b", ", rec[22]);
+        key_byte(b", ", rec[23]);
+        record_calls::print(b"\n");
+    }
+}
+
+fn key_byte(text: &[u8], byte: u8) {
+    record_calls::number(text, byte as u64);
+}
+
 // ---- one case
 
 // Places 4 apart, for the longest list.
@@ -512,10 +575,15 @@ fn second_vector() -> [i8; 512]
 
 // The record of the two vectors and of the set's list.
 fn fill(form: Form, set: u32, out: &mut [u8]) {
+    fill_keyed(form, set, record_calls::KEY, out);
+}
+
+fn fill_keyed(form: Form, set: u32, key: u32, out: &mut [u8]) {
     let list = places();
     records::write(
         form,
         set,
+        key,
         &first_vector(),
         &second_vector(),
         record_calls::first_places(&list, record_calls::kappa_of(set)),

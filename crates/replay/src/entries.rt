@@ -16,14 +16,14 @@ struct Head {
     count: u16,
 }
 
-// All entries, as many as the file states, and then the counts.
-pub fn replay(fd: i32) {
+// All entries, as many as the file states, and then the counts. A file from before key numbers has calls of 28 bytes, which end before them.
+pub fn replay(fd: i32, before: bool) {
     let mut memory = [0u8; slots::BYTES];
     let mut counts = [0u32; tally::COUNTS];
-    let mut said = [0u32; 4];
-    let mut left = stated(fd);
+    let mut said = [0u32; 6];
+    let mut left = stated(fd, before);
     while 0 < left {
-        if !entry(fd, &mut memory, &mut counts, &mut said) {
+        if !entry(fd, before, &mut memory, &mut counts, &mut said) {
             tally::text(b"the file is not as its format says\n");
             return;
         }
@@ -33,25 +33,28 @@ pub fn replay(fd: i32) {
     tally::print(&counts);
 }
 
-// The number of entries; 0 where the letters are not BLVECT04.
-fn stated(fd: i32) -> u32 {
+// The number of entries; 0 where the letters are not those of the file.
+fn stated(fd: i32, before: bool) -> u32 {
     let mut bytes = [0u8; 16];
     let got = io::read_full(fd, &mut bytes);
     if got != 16 {
         return 0;
     }
-    if !opens(&bytes) {
+    if !opens(&bytes, &letters(before)) {
         return 0;
     }
-    let low = byte_codes::number_at(&bytes, 8) as u32;
-    let high = byte_codes::number_at(&bytes, 10) as u32;
-    low + 65536 * high
+    byte_codes::number32_in(&bytes[8..12])
 }
 
-fn opens(bytes: &[u8]) -> bool
-    requires { ⌜ length (now bytes) ≡ 16 ⌝ }
+fn letters(before: bool) -> [u8; 8]
+    ensures { λ r. ⌜ length r ≡ 8 ⌝ }
 {
-    let letters = b"BLVECT04";
+    if before { *b"BLVECT04" } else { *b"BLVECT05" }
+}
+
+fn opens(bytes: &[u8], letters: &[u8]) -> bool
+    requires { ⌜ (length (now bytes) ≡ 16) × (length (now letters) ≡ 8) ⌝ }
+{
     let mut i = 0;
     while i < 8 {
         if bytes[i] != letters[i] {
@@ -63,7 +66,7 @@ fn opens(bytes: &[u8]) -> bool
 }
 
 // One entry: a load, a patch or a call. False where it is none.
-fn entry(fd: i32, memory: &mut [u8], counts: &mut [u32], said: &mut [u32]) -> bool
+fn entry(fd: i32, before: bool, memory: &mut [u8], counts: &mut [u32], said: &mut [u32]) -> bool
     requires { ⌜ (length (now memory) ≡ 38912) × (length (now counts) ≡ 288) ⌝ }
 {
     let mut bytes = [0u8; 8];
@@ -79,7 +82,7 @@ fn entry(fd: i32, memory: &mut [u8], counts: &mut [u32], said: &mut [u32]) -> bo
         count: byte_codes::number_at(&bytes, 6),
     };
     if h.what == 3 {
-        return called(fd, h.which, memory, counts, said);
+        return called(fd, before, h.which, memory, counts, said);
     }
     load(fd, h, memory)
 }
@@ -131,21 +134,71 @@ fn scaled(width: u8, count: u16) -> usize
     524280
 }
 
-fn called(fd: i32, which: u8, memory: &[u8], counts: &mut [u32], said: &mut [u32]) -> bool
+fn called(
+    fd: i32,
+    before: bool,
+    which: u8,
+    memory: &[u8],
+    counts: &mut [u32],
+    said: &mut [u32],
+) -> bool
     requires { ⌜ (length (now memory) ≡ 38912) × (length (now counts) ≡ 288) ⌝ }
 {
-    let mut bytes = [0u8; 28];
-    let got = io::read_full(fd, &mut bytes);
-    if got != 28 {
+    let mut bytes = [0u8; 36];
+    if !is_call(fd, before, &mut bytes) {
         return false;
     }
     let k = wanted::asked_in(&bytes);
-    if vector_calls::call(memory, which, k, said) {
+    let same = vector_calls::call(memory, which, k, said);
+    if is_taken_back(before, k) {
+        taken_back(same, which, k, counts);
+    } else {
+        told(same, which, k, counts);
+    }
+    true
+}
+
+// The bytes of a call; those from before key numbers end where the numbers would stand.
+fn is_call(fd: i32, before: bool, bytes: &mut [u8]) -> bool
+    requires { ⌜ length (now bytes) ≡ 36 ⌝ }
+{
+    if before {
+        let got = io::read_full(fd, &mut bytes[..28]);
+        return got == 28;
+    }
+    let got = io::read_full(fd, bytes);
+    got == 36
+}
+
+// 13 at 20 is no longer given (02, C-13): a call of before that wanted it answers otherwise now.
+fn is_taken_back(before: bool, k: Asked) -> bool {
+    if !before {
+        return false;
+    }
+    if k.number != 13 {
+        return false;
+    }
+    k.place == 20
+}
+
+fn taken_back(same: bool, which: u8, k: Asked, counts: &mut [u32])
+    requires { ⌜ length (now counts) ≡ 288 ⌝ }
+{
+    if same {
+        missed(which, k, counts);
+    } else {
+        tally::add(counts, 1);
+    }
+}
+
+fn told(same: bool, which: u8, k: Asked, counts: &mut [u32])
+    requires { ⌜ length (now counts) ≡ 288 ⌝ }
+{
+    if same {
         count(which, k.number, counts);
     } else {
         missed(which, k, counts);
     }
-    true
 }
 
 // A call that did as wanted; only calls 1 to 17 do, with numbers below 16.

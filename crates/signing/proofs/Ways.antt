@@ -19,11 +19,11 @@ use Rattle.keys.proofs.Ranges.{sized-three, sized-four}
 use Rattle.keys.proofs.Counts.{proper-by-relation, improper-by-counts}
 use Rattle.vectors.specs.Pairs.{Pair}
 use Rattle.choices.specs.Choices.{choices}
-use Rattle.signing.specs.Response.{Lent, secret, drawing, Responded, responded, drawn, allSized, early}
+use Rattle.signing.specs.Response.{Lent, secret, drawing, Unnumbered, unnumbered, drawn, allSized, early}
 
 -- a refusal before the draw
-pub refusal-at : (o o′ : Outcome) (n : ℕ) (x y : List ℤ) → o ≡ o′ → n ≡ 0 → responded o n x y ≡ responded o′ 0 x y
-refusal-at o o′ n x y e h = ap₂ (λ (p : Outcome) (m : ℕ). responded p m x y) e h
+pub refusal-at : (o o′ : Outcome) (n : ℕ) (x y : List ℤ) → o ≡ o′ → n ≡ 0 → unnumbered o n x y ≡ unnumbered o′ 0 x y
+refusal-at o o′ n x y e h = ap₂ (λ (p : Outcome) (m : ℕ). unnumbered p m x y) e h
 
 -- ---- the lengths
 pub all-sized : (c : Lent) → allSized c ≡ true
@@ -55,12 +55,12 @@ are-sized c h =
 -- ---- the key
 
 -- what is left of the response once masks and list are in range and the key's counts are right: its relation, then the draw
-abbrev pub signedWith : Set → Lent → Pair → Responded
+abbrev pub signedWith : Set → Lent → Pair → Unnumbered
 signedWith s c key =
     must (relation (c .a) (key .first) (key .second)) (early c RelationBroken)
     (drawn s (drawing c) (choices key (c .list)))
 
-must-unless : (related : Bool) (answer : Outcome → Responded) (next : Responded) → must related (answer RelationBroken) next ≡ unless (must related RelationBroken Done) answer next
+must-unless : (related : Bool) (answer : Outcome → Unnumbered) (next : Unnumbered) → must related (answer RelationBroken) next ≡ unless (must related RelationBroken Done) answer next
 must-unless true answer next = refl
 must-unless false answer next = refl
 
@@ -71,6 +71,6 @@ signed-with s c range counts =
     rw (proper-by-relation s (c .f) (c .g) (c .a) range counts)
     (must-unless (relation (c .a) (c .f) (second (c .g))) (early c) (drawn s (drawing c) (choices (secret c) (c .list))))
 
-pub counts-refused : (s : Set) (c : Lent) (next : Responded) → rightCounts s (c .f) (c .g) ≡ false
+pub counts-refused : (s : Set) (c : Lent) (next : Unnumbered) → rightCounts s (c .f) (c .g) ≡ false
     → early c CountsWrong ≡ unless (properKey s (c .f) (c .g) (c .a)) (early c) next
 counts-refused s c next counts = rw (improper-by-counts s (c .f) (c .g) (c .a) counts)

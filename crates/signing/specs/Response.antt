@@ -1,4 +1,4 @@
--- The response (01, "Response", "The draw", "Length rule" and "Numbers that come back"; 02, C-12).
+-- The response (01, "Response", "The draw", "Length rule" and "Numbers that come back"; 02, C-12, C-13).
 use mathlib.Core.Bool.{Bool, _&&_}
 use mathlib.Core.List.{List}
 use Prim.Native.Nat.{ℕ}
@@ -10,7 +10,7 @@ use Rattle.sets.specs.declared.Set.{Set}
 use Rattle.sets.specs.Numbers.{places, askedOf}
 use Rattle.answers.specs.declared.Outcome.{Outcome}
 use Rattle.answers.specs.declared.Outcome.the-variants.{Done, UnknownSet, WrongLength, CoefficientOutside, MaskOutside, ImproperList, DrawRejected, WordMissing}
-use Rattle.answers.specs.Outcomes.{unless, forSet}
+use Rattle.answers.specs.Outcomes.{unless, keyWith, forSet}
 use Rattle.vectors.specs.Vectors.{sized}
 use Rattle.vectors.specs.Pairs.{Pair, pair}
 use Rattle.vectors.specs.Places.{properList}
@@ -54,13 +54,17 @@ pub record Drawing : Type 0 where
 abbrev pub drawing : Lent → Drawing
 drawing c = record { a = c .a; y = pair (c .y1) (c .y2); sign = c .sign; thresholds = c .thresholds; words = c .words; old = pair (c .z1) (c .z2) }
 
--- what the response leaves behind: the outcome, the count of words taken, and the contents of the vectors z1 and z2 dagger
+-- what the response leaves behind: the outcome, the count of words taken, the key number, and the contents of the vectors z1 and z2 dagger
 pub data Responded : Type 0 where
-  responded : Outcome → ℕ → List ℤ → List ℤ → Responded
+  responded : Outcome → ℕ → ℕ → List ℤ → List ℤ → Responded
+
+-- the same without the key number, which no step of the response looks at
+pub data Unnumbered : Type 0 where
+  unnumbered : Outcome → ℕ → List ℤ → List ℤ → Unnumbered
 
 -- an answer that gives out a pair of vectors, or leaves one as it was
-abbrev pub leaving : Pair → ℕ → Outcome → Responded
-leaving x count o = responded o count (x .first) (x .second)
+abbrev pub leaving : Pair → ℕ → Outcome → Unnumbered
+leaving x count o = unnumbered o count (x .first) (x .second)
 
 -- ---- what is given out
 
@@ -71,13 +75,13 @@ shortened s d z = pair (z .first) (daggers s (sums (d .a) (d .y .first) (d .y .s
 -- ---- the refusals in their order: 1, 2, 3, 4, 5, 15, 7, 6, 8 or 9, 10, 11
 
 -- 10, 11: the length rule of z1 and z2 dagger, which are given out where it passes
-abbrev pub given : Set → Pair → ℕ → Pair → Responded
+abbrev pub given : Set → Pair → ℕ → Pair → Unnumbered
 given s old count z =
     unless (lengthRule s (z .first) (z .second)) (leaving old count)
     (leaving z count Done)
 
 -- 8 or 9 as the walk ends, then the above
-unfoldable pub drawn : Set → Drawing → Pair → Responded
+unfoldable pub drawn : Set → Drawing → Pair → Unnumbered
 drawn s d v =
     afterWalk (walkOf (firstTrial s v) (secondTrial (masked (d .sign) (d .y) v) v) (d .words) (d .thresholds))
     (λ count. given s (d .old) count (shortened s d (masked (d .sign) (d .y) v)))
@@ -92,11 +96,11 @@ allSized c =
     && eqb (length (c .thresholds)) places)
 
 -- a refusal before the draw has taken no word
-abbrev pub early : Lent → Outcome → Responded
+abbrev pub early : Lent → Outcome → Unnumbered
 early c = leaving (pair (c .z1) (c .z2)) 0
 
 -- 2, 3, 4, 5, then 15, 7, 6 of the key, then the draw with v, the sign choices
-unfoldable pub responseFor : Set → Lent → Responded
+unfoldable pub responseFor : Set → Lent → Unnumbered
 responseFor s c =
     must (allSized c) (early c WrongLength)
     (must (inRange (c .f) (c .g) (c .a)) (early c CoefficientOutside)
@@ -106,5 +110,14 @@ responseFor s c =
     (drawn s (drawing c) (choices (secret c) (c .list)))))))
 
 -- 1, then the above
-unfoldable pub response : ℕ → Lent → Responded
-response set c = forSet (askedOf set) (early c UnknownSet) (λ s. responseFor s c)
+unfoldable pub responding : ℕ → Lent → Unnumbered
+responding set c = forSet (askedOf set) (early c UnknownSet) (λ s. responseFor s c)
+
+-- ---- the key number
+
+-- "the response takes it from its caller": it goes with a signature that is given out, 0 with a refusal (02, C-13)
+abbrev pub numbered : ℕ → Unnumbered → Responded
+numbered key (unnumbered o count z1 z2) = responded o count (keyWith o key) z1 z2
+
+unfoldable pub response : ℕ → ℕ → Lent → Responded
+response set key c = numbered key (responding set c)

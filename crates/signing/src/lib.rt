@@ -1,4 +1,4 @@
-// The response: sign choices, draw, length rule (01, "Response", "The draw", "Length rule").
+// The response: sign choices, draw, length rule (01, "Response", "The draw", "Length rule"), and the key number (02, C-13).
 ghost use mathlib.Core.Path.{_≡_};
 ghost use mathlib.Core.Bool.{true, _&&_};
 ghost use Prim.Native.Nat.{ℕ, _+_, _*_, _≤_};
@@ -17,21 +17,29 @@ ghost use Rattle.commitment.specs.Commitment.{areMasks, sums};
 ghost use Rattle.vectors.specs.Pairs.{pair};
 ghost use Rattle.choices.specs.Choices.{choices};
 ghost use Rattle.masking.specs.Masking.{daggers};
-ghost use Rattle.signing.specs.Response.{responded, leaving, given, drawn, responseFor, response};
+ghost use Rattle.signing.specs.Response.{unnumbered, responded, leaving, given, drawn, responseFor, responding, response};
 use answers::Outcome;
 use draw::Ending;
 use sets::Asked;
 use sets::Set;
 
-// The outcome, and the count of words taken.
+// The outcome, the count of words taken, and the key number: the caller's, 0 when the response refuses.
 pub struct Response {
     pub outcome: Outcome,
     pub words: usize,
+    pub key: u32,
+}
+
+// The same without the key number, which no step of the response looks at.
+struct Unnumbered {
+    outcome: Outcome,
+    words: usize,
 }
 
 // The response: refusals 1, 2, 3, 4, 5, 15, 6, then 8 or 9 as the walk ends, then 10, 11. As in the key test, 7 can't occur.
 pub fn respond(
     set: u32,
+    key: u32,
     f: &[i8],
     g: &[i8],
     a: &[u16],
@@ -44,8 +52,46 @@ pub fn respond(
     z1: &mut [i16],
     z2: &mut [i8],
 ) -> Response
-    ensures { λ r. ⌜ responded (r .outcome) (r .words) (now (z1 .exit)) (now (z2 .exit))
-        ≡ response set (record {
+    ensures { λ r. ⌜ responded (r .outcome) (r .words) (r .key) (now (z1 .exit)) (now (z2 .exit))
+        ≡ response set key (record {
+          f = now (f .entry);
+          g = now (g .entry);
+          a = now (a .entry);
+          y1 = now (y1 .entry);
+          y2 = now (y2 .entry);
+          list = now (list .entry);
+          sign = sign;
+          thresholds = now (thresholds .entry);
+          words = now (words .entry);
+          z1 = now (z1 .entry);
+          z2 = now (z2 .entry);
+        }) ⌝ }
+{
+    let r = responding(set, f, g, a, y1, y2, list, sign, thresholds, words, z1, z2);
+    let o = r.outcome;
+    Response {
+        outcome: o,
+        words: r.words,
+        key: o.key_with(key),
+    }
+}
+
+fn responding(
+    set: u32,
+    f: &[i8],
+    g: &[i8],
+    a: &[u16],
+    y1: &[i16],
+    y2: &[i16],
+    list: &[u16],
+    sign: bool,
+    thresholds: &[u64],
+    words: &[u64],
+    z1: &mut [i16],
+    z2: &mut [i8],
+) -> Unnumbered
+    ensures { λ r. ⌜ unnumbered (r .outcome) (r .words) (now (z1 .exit)) (now (z2 .exit))
+        ≡ responding set (record {
           f = now (f .entry);
           g = now (g .entry);
           a = now (a .entry);
@@ -66,10 +112,10 @@ pub fn respond(
 }
 
 // A refusal before the draw has taken no word.
-fn refusal(outcome: Outcome) -> Response
+fn refusal(outcome: Outcome) -> Unnumbered
     ensures { λ r. ⌜ (r .outcome ≡ outcome) × (r .words ≡ 0) ⌝ }
 {
-    Response { outcome, words: 0 }
+    Unnumbered { outcome, words: 0 }
 }
 
 fn respond_for(
@@ -85,8 +131,8 @@ fn respond_for(
     words: &[u64],
     z1: &mut [i16],
     z2: &mut [i8],
-) -> Response
-    ensures { λ r. ⌜ responded (r .outcome) (r .words) (now (z1 .exit)) (now (z2 .exit))
+) -> Unnumbered
+    ensures { λ r. ⌜ unnumbered (r .outcome) (r .words) (now (z1 .exit)) (now (z2 .exit))
         ≡ responseFor s (record {
           f = now (f .entry);
           g = now (g .entry);
@@ -136,10 +182,10 @@ fn test(
     words: &[u64],
     z1: &mut [i16],
     z2: &mut [i8],
-) -> Response
+) -> Unnumbered
     requires { ⌜ (length (now f) ≡ dimension) × (length (now g) ≡ dimension) × (length (now a) ≡ dimension) × (length (now thresholds) ≡ places) ⌝ }
     requires { ⌜ (length (now y1) ≡ dimension) × (length (now y2) ≡ dimension) × (length (now z1) ≡ dimension) × (length (now z2) ≡ dimension) ⌝ }
-    ensures { λ r. ⌜ responded (r .outcome) (r .words) (now (z1 .exit)) (now (z2 .exit))
+    ensures { λ r. ⌜ unnumbered (r .outcome) (r .words) (now (z1 .exit)) (now (z2 .exit))
         ≡ responseFor s (record {
           f = now (f .entry);
           g = now (g .entry);
@@ -201,12 +247,12 @@ fn sign_with(
     words: &[u64],
     z1: &mut [i16],
     z2: &mut [i8],
-) -> Response
+) -> Unnumbered
     requires { ⌜ (length (now s1) ≡ dimension) × (length (now s2) ≡ dimension) × (length (now a) ≡ dimension) × (length (now thresholds) ≡ places) ⌝ }
     requires { ⌜ (length (now y1) ≡ dimension) × (length (now y2) ≡ dimension) × (length (now z1) ≡ dimension) × (length (now z2) ≡ dimension) ⌝ }
     requires { ⌜ (every (within 5) (now s1) ≡ true) × (every (within 5) (now s2) ≡ true) × (areMasks (now y1) (now y2) ≡ true) × (properList s (now list) ≡ true) ⌝ }
     requires { ⌜ squares (now s1) + squares (now s2) ≤ keyLimitOf s ⌝ }
-    ensures { λ r. ⌜ responded (r .outcome) (r .words) (now (z1 .exit)) (now (z2 .exit))
+    ensures { λ r. ⌜ unnumbered (r .outcome) (r .words) (now (z1 .exit)) (now (z2 .exit))
         ≡ must (relation (now (a .entry)) (now (s1 .entry)) (now (s2 .entry))) (leaving (pair (now (z1 .entry)) (now (z2 .entry))) 0 RelationBroken)
         (drawn s (record {
           a = now (a .entry);
@@ -256,12 +302,12 @@ fn draw_for(
     words: &[u64],
     z1: &mut [i16],
     z2: &mut [i8],
-) -> Response
+) -> Unnumbered
     requires { ⌜ (length (now v1) ≡ dimension) × (length (now v2) ≡ dimension) × (length (now a) ≡ dimension) × (length (now thresholds) ≡ places) ⌝ }
     requires { ⌜ (length (now y1) ≡ dimension) × (length (now y2) ≡ dimension) × (length (now z1) ≡ dimension) × (length (now z2) ≡ dimension) ⌝ }
     requires { ⌜ (now spectrum ≡ spectrumOf (now a)) × (areMasks (now y1) (now y2) ≡ true) × (squares (now v1) + squares (now v2) ≤ kappaOf s * keyLimitOf s) ⌝ }
     requires { ⌜ ((k : ℕ) → natAbs (getD (now v1) k (pos 0)) ≤ 5 * kappaOf s) × ((k : ℕ) → natAbs (getD (now v2) k (pos 0)) ≤ 5 * kappaOf s) ⌝ }
-    ensures { λ r. ⌜ responded (r .outcome) (r .words) (now (z1 .exit)) (now (z2 .exit))
+    ensures { λ r. ⌜ unnumbered (r .outcome) (r .words) (now (z1 .exit)) (now (z2 .exit))
         ≡ drawn s (record {
           a = now (a .entry);
           y = pair (now (y1 .entry)) (now (y2 .entry));
@@ -278,11 +324,11 @@ fn draw_for(
     masking::mask(y1, v1, sign);
     masking::mask(y2, v2, sign);
     match draw::walk(first, second, words, thresholds) {
-        Ending::OutOfWords => Response {
+        Ending::OutOfWords => Unnumbered {
             outcome: Outcome::WordMissing,
             words: words.len(),
         },
-        Ending::Rejected(taken) => Response {
+        Ending::Rejected(taken) => Unnumbered {
             outcome: Outcome::DrawRejected,
             words: taken,
         },
@@ -302,10 +348,10 @@ fn give(
     taken: usize,
     z1: &mut [i16],
     z2: &mut [i8],
-) -> Response
+) -> Unnumbered
     requires { ⌜ (length (now a) ≡ dimension) × (length (now w1) ≡ dimension) × (length (now w2) ≡ dimension) × (now spectrum ≡ spectrumOf (now a)) ⌝ }
     requires { ⌜ (length (now y1) ≡ dimension) × (length (now y2) ≡ dimension) × (length (now z1) ≡ dimension) × (length (now z2) ≡ dimension) ⌝ }
-    ensures { λ r. ⌜ responded (r .outcome) (r .words) (now (z1 .exit)) (now (z2 .exit))
+    ensures { λ r. ⌜ unnumbered (r .outcome) (r .words) (now (z1 .exit)) (now (z2 .exit))
         ≡ given s (pair (now (z1 .entry)) (now (z2 .entry))) taken
         (pair (now (w1 .entry)) (daggers s (sums (now (a .entry)) (now (y1 .entry)) (now (y2 .entry))) (now (w2 .entry)))) ⌝ }
 {
@@ -313,14 +359,14 @@ fn give(
     masking::shorten(s, a, spectrum, y1, y2, w2, &mut rounded);
     let o = limits::length_rule(s, w1, &rounded);
     if !o.is_done() {
-        return Response {
+        return Unnumbered {
             outcome: o,
             words: taken,
         };
     }
     vectors::copy(z1, w1);
     copy_bytes(z2, &rounded);
-    Response {
+    Unnumbered {
         outcome: Outcome::Done,
         words: taken,
     }

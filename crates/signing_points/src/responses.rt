@@ -22,6 +22,9 @@ struct Case {
     odd: usize,
 }
 
+// The key number that is lent: it comes back with a signature, and 0 with a refusal.
+const KEY: u32 = 4042322160;
+
 // No word is odd.
 const NONE: usize = 90;
 
@@ -246,6 +249,7 @@ fn responded(c: Case, z1: &mut [i16], z2: &mut [i8]) -> Response {
     y1[511] = mask;
     bursztok::bursztok_respond(
         c.set,
+        KEY,
         &f,
         &g,
         &a,

@@ -5,6 +5,7 @@ ghost use lib.ListN.{length};
 use bursztok::Answer;
 use bursztok::Part;
 use bursztok::Reading;
+use bursztok::Response;
 use lending::first_bytes;
 use lending::first_long;
 use lending::first_narrow;
@@ -238,6 +239,7 @@ fn is_given_out(
     let z2_count = once(k.z2);
     let r = lending::respond(
         k.set,
+        k.key,
         f,
         g,
         a,
@@ -252,13 +254,22 @@ fn is_given_out(
         z2,
         z2_count,
     );
+    is_answered(r, k)
+}
+
+// The response's answer, with the count of words and the key number.
+fn is_answered(r: Response, k: Asked) -> bool {
     if !is_wanted(r.number, r.place, k) {
+        return false;
+    }
+    if r.key != k.back {
         return false;
     }
     r.words == k.words
 }
 
-// Signer and checker: of what is sent in a form, what the checker says of the record, and of the record with the first byte of z1 changed.
+// Signer and checker: of what is sent in a form, what the checker says of the record, whether the key number that is read is the one that was lent, and what the
+// checker says of the record with the first byte of z1 changed.
 fn checked(
     form: Form,
     k: Asked,
@@ -277,6 +288,7 @@ fn checked(
     let r = agreement::send(
         form,
         k.set,
+        k.key,
         f,
         g,
         a,
@@ -293,12 +305,29 @@ fn checked(
     if !outcome.is_done() {
         return;
     }
+    verdicts(form, k, a, &mut rec, &committed, said);
+}
+
+fn verdicts(form: Form, k: Asked, a: &[u16], rec: &mut [u8], committed: &[u16], said: &mut [u32]) {
     let total = total_of(form, k.set);
-    let as_sent = agreement::accepts(form, a, first_bytes(&rec, total), &committed);
-    count(said, as_sent, 0, 1);
-    rec[24] = std::num::wrapping_add_u8(rec[24], 1);
-    let changed = agreement::accepts(form, a, first_bytes(&rec, total), &committed);
+    as_sent(form, k.key, a, first_bytes(rec, total), committed, said);
+    change(rec);
+    let changed = agreement::accepts(form, a, first_bytes(rec, total), committed);
     count(said, changed, 2, 3);
+}
+
+fn as_sent(form: Form, key: u32, a: &[u16], rec: &[u8], committed: &[u16], said: &mut [u32]) {
+    let accepted = agreement::accepts(form, a, rec, committed);
+    count(said, accepted, 0, 1);
+    let read = agreement::key_read(form, rec);
+    count(said, read == key, 4, 5);
+}
+
+// The first byte of z1 more by 1.
+fn change(rec: &mut [u8]) {
+    if 24 < rec.len() {
+        rec[24] = std::num::wrapping_add_u8(rec[24], 1);
+    }
 }
 
 // Yes is counted at one place, and no at another.
@@ -407,6 +436,7 @@ fn written(memory: &[u8], packed: bool, k: Asked, out: &mut [u8]) -> Answer
     lending::write(
         packed,
         k.set,
+        k.key,
         z1_lent,
         z2_lent,
         list_lent,
@@ -422,16 +452,24 @@ fn read(memory: &[u8], which: u8, k: Asked) -> bool
     let mut z2 = [byte_codes::signed8(k.fill); ENTRIES];
     let mut list = [whole_fill(k.fill); ENTRIES];
     let r = read_into(memory, which == 15, k, &mut z1, &mut z2, &mut list);
-    if !is_wanted(r.number, r.place, k) {
-        return false;
-    }
-    if r.set != k.stated {
+    if !is_read(r, k) {
         return false;
     }
     if !is_pair(memory, k, &z1, &z2) {
         return false;
     }
     is_left_whole(memory, 16, k, &list, k.list)
+}
+
+// The reader's answer, with the set and the key number.
+fn is_read(r: Reading, k: Asked) -> bool {
+    if !is_wanted(r.number, r.place, k) {
+        return false;
+    }
+    if r.set != k.stated {
+        return false;
+    }
+    r.key == k.back
 }
 
 fn read_into(

@@ -4,7 +4,8 @@ ghost use Prim.Native.Nat.{_<_};
 ghost use lib.ListN.{length};
 use crate::slots;
 
-// The 28 bytes of a call: the set, then what is wanted, then the lengths of the outputs that are lent, the sign bit and what the outputs hold before.
+// The 36 bytes of a call: the set, then what is wanted, then the lengths of the outputs that are lent, the sign bit, what the outputs hold before, the key number
+// that is lent and the one that is wanted.
 pub struct Asked {
     pub set: u32,
     pub number: u32,
@@ -21,13 +22,15 @@ pub struct Asked {
     pub rests: u16,
     pub sign: bool,
     pub fill: u8,
+    pub key: u32,
+    pub back: u32,
 }
 
 pub fn asked_in(bytes: &[u8]) -> Asked
-    requires { ⌜ length (now bytes) ≡ 28 ⌝ }
+    requires { ⌜ length (now bytes) ≡ 36 ⌝ }
 {
     Asked {
-        set: set_in(bytes),
+        set: byte_codes::number32_in(&bytes[0..4]),
         number: wide(bytes[4]),
         stated: wide(bytes[5]),
         place: byte_codes::number_at(bytes, 6) as u32,
@@ -42,19 +45,13 @@ pub fn asked_in(bytes: &[u8]) -> Asked
         rests: byte_codes::number_at(bytes, 24),
         sign: bytes[26] == 1,
         fill: bytes[27],
+        key: byte_codes::number32_in(&bytes[28..32]),
+        back: byte_codes::number32_in(&bytes[32..36]),
     }
 }
 
 fn wide(x: u8) -> u32 {
     x as u32
-}
-
-fn set_in(bytes: &[u8]) -> u32
-    requires { ⌜ length (now bytes) ≡ 28 ⌝ }
-{
-    let low = byte_codes::number_at(bytes, 0) as u32;
-    let high = byte_codes::number_at(bytes, 2) as u32;
-    low + 65536 * high
 }
 
 pub fn is_wanted(number: u32, place: u32, k: Asked) -> bool {

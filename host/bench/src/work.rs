@@ -32,6 +32,9 @@ pub const MEASURED: [(Call, &str, &str); 12] = [
     (Call::Unpack, "unpack", "bursztok_unpack"),
 ];
 
+/// The key number that the sheet is signed with.
+const KEY: u32 = 7;
+
 /// Who does the work.
 #[derive(Clone, Copy, Debug, PartialEq, Eq)]
 pub enum Side {
@@ -60,6 +63,7 @@ impl Work {
         let mut work = Work {
             input: Input {
                 set: set.number(),
+                key: KEY,
                 f: key.f,
                 g: key.g,
                 a: key.a,

@@ -14,6 +14,7 @@ pub struct Response {
     pub number: u32,
     pub place: u32,
     pub words: u64,
+    pub key: u32,
 }
 
 #[repr(C)]
@@ -21,6 +22,7 @@ pub struct Reading {
     pub number: u32,
     pub place: u32,
     pub set: u32,
+    pub key: u32,
 }
 
 #[repr(C)]
@@ -69,6 +71,7 @@ extern "C" {
 
     pub fn bursztok_respond(
         set: u32,
+        key: u32,
         f: *const i8,
         f_len: usize,
         g: *const i8,
@@ -138,6 +141,7 @@ extern "C" {
 
     pub fn bursztok_write(
         set: u32,
+        key: u32,
         z1: *const i16,
         z1_len: usize,
         z2: *const i8,
@@ -161,6 +165,7 @@ extern "C" {
 
     pub fn bursztok_write_packed(
         set: u32,
+        key: u32,
         z1: *const i16,
         z1_len: usize,
         z2: *const i8,
@@ -222,4 +227,53 @@ extern "C" {
     pub fn bursztok_record_bytes(set: u32) -> u32;
 
     pub fn bursztok_packed_bytes(set: u32) -> u32;
+}
+
+#[cfg(test)]
+mod tests {
+    use super::{Answer, Part, Reading, Response};
+    use std::mem::{offset_of, size_of};
+
+    /// As C lays the header's structures out.
+    #[test]
+    fn the_answers_are_laid_out_as_in_c() {
+        assert_eq!(size_of::<Answer>(), 8);
+        assert_eq!(size_of::<Part>(), 16);
+        assert_eq!(size_of::<Response>(), 24);
+        let response = [
+            offset_of!(Response, number),
+            offset_of!(Response, place),
+            offset_of!(Response, words),
+            offset_of!(Response, key),
+        ];
+        assert_eq!(response, [0, 4, 8, 16]);
+        assert_eq!(size_of::<Reading>(), 16);
+        let reading = [
+            offset_of!(Reading, number),
+            offset_of!(Reading, place),
+            offset_of!(Reading, set),
+            offset_of!(Reading, key),
+        ];
+        assert_eq!(reading, [0, 4, 8, 12]);
+    }
+
+    /// The fields of a structure of the header, in its order.
+    fn fields<'a>(header: &'a str, name: &str) -> Vec<&'a str> {
+        let (before, _) = header.split_once(&format!("}} {name};")).unwrap();
+        let body = before.rsplit("typedef struct {").next().unwrap();
+        let declared = body.split([' ', ',', ';', '\n']);
+        let words = declared.filter(|word| !word.is_empty());
+        words.filter(|word| !word.starts_with("uint")).collect()
+    }
+
+    #[test]
+    fn the_answers_are_those_of_the_header() {
+        let header = include_str!("../../../include/bursztok.h");
+        assert_eq!(fields(header, "bursztok_answer"), ["number", "place"]);
+        let response = ["number", "place", "words", "key"];
+        assert_eq!(fields(header, "bursztok_response"), response);
+        let reading = ["number", "place", "set", "key"];
+        assert_eq!(fields(header, "bursztok_reading"), reading);
+        assert_eq!(fields(header, "bursztok_part"), ["start", "length"]);
+    }
 }

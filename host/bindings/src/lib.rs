@@ -2,8 +2,8 @@
 //!
 //! The seventeen calls of papers 01 and 02, with slices for the pointers and lengths of `bursztok.h`,
 //! and the three that tell a set's sizes. Every call answers on all input, slices of any length included; a
-//! refusal leaves every output slice with the contents it came with. A set of 0 stands for set 4, and
-//! for set 1 on the two calls that keep the old default.
+//! refusal leaves every output slice with the contents it came with, and answers no key number. A set of
+//! 0 stands for set 4, and for set 1 on the two calls that keep the old default.
 
 pub mod foreign;
 #[cfg(target_arch = "x86_64")]
@@ -30,8 +30,10 @@ pub const LIST: usize = 113;
 pub const RECORD: usize = 1786;
 /// The length of the longest packed record.
 pub const PACKED: usize = 1240;
+/// The key number of a signature that states none.
+pub const KEY_NOT_STATED: u32 = 0;
 
-/// What a response takes beside the two vectors that it writes.
+/// What a response takes beside the set, the key number and the two vectors that it writes.
 #[derive(Clone, Copy, Debug)]
 pub struct Challenge<'a> {
     pub f: &'a [i8],
@@ -46,20 +48,23 @@ pub struct Challenge<'a> {
     pub words: &'a [u64],
 }
 
-/// The answer of a response: the count of words taken stands beside every outcome.
+/// The answer of a response: the count of words taken stands beside every outcome, and the key number
+/// that it was given, 0 when it refuses.
 #[derive(Clone, Copy, Debug, PartialEq, Eq)]
 #[must_use]
 pub struct Response {
     pub outcome: Result<(), Refusal>,
     pub words: u64,
+    pub key: u32,
 }
 
-/// The answer of a reader: the set that the record states, 0 when it refuses.
+/// The answer of a reader: the set and the key number that the record states, 0 when it refuses.
 #[derive(Clone, Copy, Debug, PartialEq, Eq)]
 #[must_use]
 pub struct Reading {
     pub outcome: Result<(), Refusal>,
     pub set: u32,
+    pub key: u32,
 }
 
 /// The answer of a section call: a part of the lent record, empty and at its start when refused.
@@ -98,12 +103,19 @@ pub fn commitment_with_rests(
     outcome(calls::commitment_with_rests(set, a, y1, y2, out, rests))
 }
 
-/// The response to a challenge: writes z1 and z2 dagger.
-pub fn respond(set: u32, challenge: Challenge, z1: &mut [i16], z2_dagger: &mut [i8]) -> Response {
-    let answer = calls::respond(set, challenge, z1, z2_dagger);
+/// The response to a challenge: writes z1 and z2 dagger. Any key number will do.
+pub fn respond(
+    set: u32,
+    key: u32,
+    challenge: Challenge,
+    z1: &mut [i16],
+    z2_dagger: &mut [i8],
+) -> Response {
+    let answer = calls::respond(set, key, challenge, z1, z2_dagger);
     Response {
         outcome: Refusal::outcome(answer.number, answer.place),
         words: answer.words,
+        key: answer.key,
     }
 }
 
@@ -143,26 +155,28 @@ pub fn compare_default_one(set: u32, claimed: &[u16], hashed: &[u16]) -> Result<
     outcome(calls::compare_default_one(set, claimed, hashed))
 }
 
-/// The record writer. A longer output keeps its tail.
+/// The record writer. Any key number will do; a longer output keeps its tail.
 pub fn write(
     set: u32,
+    key: u32,
     z1: &[i16],
     z2_dagger: &[i8],
     list: &[u16],
     out: &mut [u8],
 ) -> Result<(), Refusal> {
-    outcome(calls::write(set, z1, z2_dagger, list, out))
+    outcome(calls::write(set, key, z1, z2_dagger, list, out))
 }
 
-/// The writer of packed records. A longer output keeps its tail.
+/// The writer of packed records. Any key number will do; a longer output keeps its tail.
 pub fn write_packed(
     set: u32,
+    key: u32,
     z1: &[i16],
     z2_dagger: &[i8],
     list: &[u16],
     out: &mut [u8],
 ) -> Result<(), Refusal> {
-    outcome(calls::write_packed(set, z1, z2_dagger, list, out))
+    outcome(calls::write_packed(set, key, z1, z2_dagger, list, out))
 }
 
 /// The record reader. List entries after kappa keep their old contents.
@@ -180,12 +194,12 @@ pub fn read_packed(
     reading(calls::read_packed(record, z1, z2_dagger, list))
 }
 
-/// The packed record of a plain one. A longer output keeps its tail.
+/// The packed record of a plain one, key number included. A longer output keeps its tail.
 pub fn pack(record: &[u8], out: &mut [u8]) -> Result<(), Refusal> {
     outcome(calls::pack(record, out))
 }
 
-/// The plain record of a packed one. A longer output keeps its tail.
+/// The plain record of a packed one, key number included. A longer output keeps its tail.
 pub fn unpack(record: &[u8], out: &mut [u8]) -> Result<(), Refusal> {
     outcome(calls::unpack(record, out))
 }
@@ -224,6 +238,7 @@ fn reading(answer: foreign::Reading) -> Reading {
     Reading {
         outcome: Refusal::outcome(answer.number, answer.place),
         set: answer.set,
+        key: answer.key,
     }
 }
 

@@ -61,11 +61,18 @@ pub fn commitment_with_rests(
     }
 }
 
-pub fn respond(set: u32, asked: Challenge, z1: &mut [i16], z2_dagger: &mut [i8]) -> Response {
+pub fn respond(
+    set: u32,
+    key: u32,
+    asked: Challenge,
+    z1: &mut [i16],
+    z2_dagger: &mut [i8],
+) -> Response {
     // SAFETY: each pointer is good for the length beside it; the outputs are borrowed alone.
     unsafe {
         foreign::bursztok_respond(
             set,
+            key,
             asked.f.as_ptr(),
             asked.f.len(),
             asked.g.as_ptr(),
@@ -178,22 +185,31 @@ fn compare_by(call: CompareCall, set: u32, claimed: &[u16], hashed: &[u16]) -> A
     }
 }
 
-pub fn write(set: u32, z1: &[i16], z2_dagger: &[i8], list: &[u16], out: &mut [u8]) -> Answer {
-    write_by(foreign::bursztok_write, set, z1, z2_dagger, list, out)
+pub fn write(
+    set: u32,
+    key: u32,
+    z1: &[i16],
+    z2_dagger: &[i8],
+    list: &[u16],
+    out: &mut [u8],
+) -> Answer {
+    write_by(foreign::bursztok_write, set, key, z1, z2_dagger, list, out)
 }
 
 pub fn write_packed(
     set: u32,
+    key: u32,
     z1: &[i16],
     z2_dagger: &[i8],
     list: &[u16],
     out: &mut [u8],
 ) -> Answer {
     let call = foreign::bursztok_write_packed;
-    write_by(call, set, z1, z2_dagger, list, out)
+    write_by(call, set, key, z1, z2_dagger, list, out)
 }
 
 type WriteCall = unsafe extern "C" fn(
+    u32,
     u32,
     *const i16,
     usize,
@@ -208,6 +224,7 @@ type WriteCall = unsafe extern "C" fn(
 fn write_by(
     call: WriteCall,
     set: u32,
+    key: u32,
     z1: &[i16],
     z2_dagger: &[i8],
     list: &[u16],
@@ -217,6 +234,7 @@ fn write_by(
     unsafe {
         call(
             set,
+            key,
             z1.as_ptr(),
             z1.len(),
             z2_dagger.as_ptr(),

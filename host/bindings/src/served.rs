@@ -30,9 +30,9 @@ impl Bridge {
         })
     }
 
-    fn ask(&mut self, request: &[u8], written: &mut [&mut [u8]]) -> io::Result<[u64; 4]> {
+    fn ask(&mut self, request: &[u8], written: &mut [&mut [u8]]) -> io::Result<[u64; 5]> {
         self.requests.write_all(request)?;
-        let mut numbers = [0; 4];
+        let mut numbers = [0; 5];
         for number in &mut numbers {
             let mut bytes = [0; 8];
             self.replies.read_exact(&mut bytes)?;
@@ -62,16 +62,38 @@ fn lost(error: &io::Error) -> ! {
     std::process::exit(2)
 }
 
-/// A call, by its number in `bridge.c`, and what the bridge answers: the form is there too.
-fn ask(
+/// What the bridge answers: number and place, what else the call answers, and the key number.
+struct Reply {
+    answer: Answer,
+    more: u64,
+    length: u64,
+    key: u32,
+}
+
+/// A call, by its number in `bridge.c`, with what it takes beside its buffers.
+#[derive(Clone, Copy, Default)]
+struct Asked {
     call: u32,
     set: u32,
+    key: u32,
     sign: bool,
-    read: &[&[u8]],
-    written: &mut [&mut [u8]],
-) -> (Answer, u64, u64) {
+}
+
+/// A call that takes at most a set.
+fn ask(call: u32, set: u32, read: &[&[u8]], written: &mut [&mut [u8]]) -> Reply {
+    let asked = Asked {
+        call,
+        set,
+        ..Asked::default()
+    };
+    ask_with(asked, read, written)
+}
+
+/// Asks the bridge, in the form that `bridge.c` tells.
+fn ask_with(asked: Asked, read: &[&[u8]], written: &mut [&mut [u8]]) -> Reply {
     let mut request = Vec::new();
-    for number in [call, set, sign.into(), (read.len() + written.len()) as u32] {
+    let buffers = (read.len() + written.len()) as u32;
+    for number in [asked.call, asked.set, asked.key, asked.sign.into(), buffers] {
         request.extend(number.to_le_bytes());
     }
     let lent = read.iter().copied().chain(written.iter().map(|b| &**b));
@@ -80,14 +102,18 @@ fn ask(
         request.extend(buffer);
     }
     let mut bridge = BRIDGE.lock().unwrap_or_else(PoisonError::into_inner);
-    let [number, place, more, length] = started(&mut bridge)
+    let [number, place, more, length, key] = started(&mut bridge)
         .and_then(|bridge| bridge.ask(&request, written))
         .unwrap_or_else(|error| lost(&error));
-    let answer = Answer {
-        number: number as u32,
-        place: place as u32,
-    };
-    (answer, more, length)
+    Reply {
+        answer: Answer {
+            number: number as u32,
+            place: place as u32,
+        },
+        more,
+        length,
+        key: key as u32,
+    }
 }
 
 /// The bytes of a buffer.
@@ -110,12 +136,12 @@ impl Plain for u16 {}
 impl Plain for u64 {}
 
 pub fn key_test(set: u32, f: &[i8], g: &[i8], a: &[u16]) -> Answer {
-    ask(1, set, false, &[bytes(f), bytes(g), bytes(a)], &mut []).0
+    ask(1, set, &[bytes(f), bytes(g), bytes(a)], &mut []).answer
 }
 
 pub fn commitment(set: u32, a: &[u16], y1: &[i16], y2: &[i16], out: &mut [u16]) -> Answer {
     let read = [bytes(a), bytes(y1), bytes(y2)];
-    ask(2, set, false, &read, &mut [bytes_mut(out)]).0
+    ask(2, set, &read, &mut [bytes_mut(out)]).answer
 }
 
 pub fn commitment_with_rests(
@@ -128,26 +154,39 @@ pub fn commitment_with_rests(
 ) -> Answer {
     let read = [bytes(a), bytes(y1), bytes(y2)];
     let mut written = [bytes_mut(out), bytes_mut(rests)];
-    ask(11, set, false, &read, &mut written).0
+    ask(11, set, &read, &mut written).answer
 }
 
-pub fn respond(set: u32, asked: Challenge, z1: &mut [i16], z2_dagger: &mut [i8]) -> Response {
+pub fn respond(
+    set: u32,
+    key: u32,
+    challenge: Challenge,
+    z1: &mut [i16],
+    z2_dagger: &mut [i8],
+) -> Response {
     let read = [
-        bytes(asked.f),
-        bytes(asked.g),
-        bytes(asked.a),
-        bytes(asked.y1),
-        bytes(asked.y2),
-        bytes(asked.list),
-        bytes(asked.thresholds),
-        bytes(asked.words),
+        bytes(challenge.f),
+        bytes(challenge.g),
+        bytes(challenge.a),
+        bytes(challenge.y1),
+        bytes(challenge.y2),
+        bytes(challenge.list),
+        bytes(challenge.thresholds),
+        bytes(challenge.words),
     ];
     let mut written = [bytes_mut(z1), bytes_mut(z2_dagger)];
-    let (Answer { number, place }, words, _) = ask(3, set, asked.sign, &read, &mut written);
+    let asked = Asked {
+        call: 3,
+        set,
+        key,
+        sign: challenge.sign,
+    };
+    let reply = ask_with(asked, &read, &mut written);
     Response {
-        number,
-        place,
-        words,
+        number: reply.answer.number,
+        place: reply.answer.place,
+        words: reply.more,
+        key: reply.key,
     }
 }
 
@@ -160,7 +199,7 @@ pub fn rebuild(
     out: &mut [u16],
 ) -> Answer {
     let read = [bytes(a), bytes(z1), bytes(z2_dagger), bytes(list)];
-    ask(4, set, false, &read, &mut [bytes_mut(out)]).0
+    ask(4, set, &read, &mut [bytes_mut(out)]).answer
 }
 
 pub fn rebuild_default_one(
@@ -172,31 +211,56 @@ pub fn rebuild_default_one(
     out: &mut [u16],
 ) -> Answer {
     let read = [bytes(a), bytes(z1), bytes(z2_dagger), bytes(list)];
-    ask(12, set, false, &read, &mut [bytes_mut(out)]).0
+    ask(12, set, &read, &mut [bytes_mut(out)]).answer
 }
 
 pub fn compare(set: u32, claimed: &[u16], hashed: &[u16]) -> Answer {
-    ask(5, set, false, &[bytes(claimed), bytes(hashed)], &mut []).0
+    ask(5, set, &[bytes(claimed), bytes(hashed)], &mut []).answer
 }
 
 pub fn compare_default_one(set: u32, claimed: &[u16], hashed: &[u16]) -> Answer {
-    ask(13, set, false, &[bytes(claimed), bytes(hashed)], &mut []).0
+    ask(13, set, &[bytes(claimed), bytes(hashed)], &mut []).answer
 }
 
-pub fn write(set: u32, z1: &[i16], z2_dagger: &[i8], list: &[u16], out: &mut [u8]) -> Answer {
-    let read = [bytes(z1), bytes(z2_dagger), bytes(list)];
-    ask(6, set, false, &read, &mut [out]).0
-}
-
-pub fn write_packed(
+pub fn write(
     set: u32,
+    key: u32,
     z1: &[i16],
     z2_dagger: &[i8],
     list: &[u16],
     out: &mut [u8],
 ) -> Answer {
+    write_by(6, set, key, z1, z2_dagger, list, out)
+}
+
+pub fn write_packed(
+    set: u32,
+    key: u32,
+    z1: &[i16],
+    z2_dagger: &[i8],
+    list: &[u16],
+    out: &mut [u8],
+) -> Answer {
+    write_by(14, set, key, z1, z2_dagger, list, out)
+}
+
+fn write_by(
+    call: u32,
+    set: u32,
+    key: u32,
+    z1: &[i16],
+    z2_dagger: &[i8],
+    list: &[u16],
+    out: &mut [u8],
+) -> Answer {
+    let asked = Asked {
+        call,
+        set,
+        key,
+        sign: false,
+    };
     let read = [bytes(z1), bytes(z2_dagger), bytes(list)];
-    ask(14, set, false, &read, &mut [out]).0
+    ask_with(asked, &read, &mut [out]).answer
 }
 
 pub fn read(record: &[u8], z1: &mut [i16], z2_dagger: &mut [i8], list: &mut [u16]) -> Reading {
@@ -220,20 +284,21 @@ fn read_by(
     list: &mut [u16],
 ) -> Reading {
     let mut written = [bytes_mut(z1), bytes_mut(z2_dagger), bytes_mut(list)];
-    let (Answer { number, place }, set, _) = ask(call, 0, false, &[record], &mut written);
+    let reply = ask(call, 0, &[record], &mut written);
     Reading {
-        number,
-        place,
-        set: set as u32,
+        number: reply.answer.number,
+        place: reply.answer.place,
+        set: reply.more as u32,
+        key: reply.key,
     }
 }
 
 pub fn pack(record: &[u8], out: &mut [u8]) -> Answer {
-    ask(16, 0, false, &[record], &mut [out]).0
+    ask(16, 0, &[record], &mut [out]).answer
 }
 
 pub fn unpack(record: &[u8], out: &mut [u8]) -> Answer {
-    ask(17, 0, false, &[record], &mut [out]).0
+    ask(17, 0, &[record], &mut [out]).answer
 }
 
 pub fn z1_section(record: &[u8]) -> (Answer, Part) {
@@ -249,18 +314,22 @@ pub fn list_section(record: &[u8]) -> (Answer, Part) {
 }
 
 fn section(call: u32, record: &[u8]) -> (Answer, Part) {
-    let (answer, start, length) = ask(call, 0, false, &[record], &mut []);
-    (answer, Part { start, length })
+    let reply = ask(call, 0, &[record], &mut []);
+    let part = Part {
+        start: reply.more,
+        length: reply.length,
+    };
+    (reply.answer, part)
 }
 
 pub fn kappa(set: u32) -> u32 {
-    ask(18, set, false, &[], &mut []).0.number
+    ask(18, set, &[], &mut []).answer.number
 }
 
 pub fn record_bytes(set: u32) -> u32 {
-    ask(19, set, false, &[], &mut []).0.number
+    ask(19, set, &[], &mut []).answer.number
 }
 
 pub fn packed_bytes(set: u32) -> u32 {
-    ask(20, set, false, &[], &mut []).0.number
+    ask(20, set, &[], &mut []).answer.number
 }

@@ -143,11 +143,12 @@ mod tests {
         let input = right_input(Set::I, &key, &mut noise);
         let right = Left::by(run, Call::Read, &input, 7);
         assert_eq!(difference(&right, &right), None);
-        let changes: [fn(&mut Left); 12] = [
+        let changes: [fn(&mut Left); 13] = [
             |left| left.answered.number += 1,
             |left| left.answered.place += 1,
             |left| left.answered.words += 1,
             |left| left.answered.set += 1,
+            |left| left.answered.key ^= 1 << 31,
             |left| left.answered.part.0 += 1,
             |left| left.answered.size += 1,
             |left| left.buffers.rounded[3] ^= 1,

@@ -1,14 +1,15 @@
 //! The cases of a run. Case numbers below `Plan::planned()` go through every edge of a key's counts,
-//! every call, set and pair of faults, every header bit and pair of fields, every length of a record,
-//! every spare bit, every bit of an entry in both forms of a record, every count of words and every
-//! step of the draw, masks that make the dropped digits cost their figure, and what 0 stands for on
-//! each call; those above are drawn at random. A case is made from the run's seed and its number
-//! alone.
+//! every call, set and pair of faults, every header bit and pair of fields, every bit of a key number,
+//! every length of a record, every spare bit, every bit of an entry in both forms of a record, every
+//! count of words and every step of the draw, masks that make the dropped digits cost their figure, and
+//! what 0 stands for on each call; those above are drawn at random. A case is made from the run's seed
+//! and its number alone.
 
 use crate::buffers::{difference, Buffers, Left};
 use crate::costs::{steer, Cost};
 use crate::faults::{faults_of, Fault};
 use crate::inputs::right_input;
+use crate::key_numbers::{key_of, wrong_key};
 use crate::{library, walks};
 use second::form::HEADER;
 use second::testing::calls::{self, Answered, Call, Input, Outputs};
@@ -38,6 +39,8 @@ enum Planned {
     HeaderByte { set: u32, byte: usize },
     /// Each field of the header wrong, alone and with each other one.
     HeaderFields { set: u32 },
+    /// Each bit of a key number, lent and in a record, and each byte beside faults of the record.
+    KeyNumbers { set: u32 },
     /// Every length of the record up to two past its total.
     RecordLengths { set: u32 },
     /// A record of the other form, as it is and with what it takes to look like one of this form.
@@ -70,6 +73,7 @@ impl Planned {
             | Planned::Pair { set, .. }
             | Planned::HeaderByte { set, .. }
             | Planned::HeaderFields { set }
+            | Planned::KeyNumbers { set }
             | Planned::RecordLengths { set }
             | Planned::OtherForm { set }
             | Planned::SpareBits { set }
@@ -92,6 +96,7 @@ impl Planned {
             | Planned::HeaderFields { .. }
             | Planned::RecordLengths { .. }
             | Planned::OtherForm { .. } => takes.is_some(),
+            Planned::KeyNumbers { .. } => call.has_key(),
             Planned::SpareBits { .. } => takes == Some(Form::Packed),
             Planned::RecordOutputs { .. } => writes.is_some(),
             Planned::EntryBits { .. } | Planned::BothForms { .. } => {
@@ -109,12 +114,14 @@ impl Planned {
 /// Who runs a call: the library or the second program.
 type Side = fn(Call, &Input, Outputs) -> Answered;
 
-/// What a case found: the answers and the costs, for the tally, and the failures.
+/// What a case found: the answers, the costs and the key numbers, for the tally, and the failures.
 #[derive(Default)]
 pub struct Found {
     pub answers: Vec<(Call, u32)>,
     /// What each response that was given out cost.
     pub costs: Vec<Cost>,
+    /// The key number of each call that was done and has one.
+    pub keys: Vec<(Call, u32)>,
     pub failures: Vec<String>,
     /// The case in words.
     pub story: String,
@@ -145,6 +152,7 @@ impl Plan {
             }
             planned.extend((0..HEADER).map(|byte| Planned::HeaderByte { set, byte }));
             planned.push(Planned::HeaderFields { set });
+            planned.push(Planned::KeyNumbers { set });
             planned.push(Planned::RecordLengths { set });
             planned.push(Planned::OtherForm { set });
             planned.push(Planned::SpareBits { set });
@@ -219,6 +227,10 @@ impl Plan {
             Planned::HeaderFields { set } => {
                 found.story = format!("fields of a header, set {set}");
                 found.compare_fields(&self.input(number, Call::Read, set, &[], noise));
+            }
+            Planned::KeyNumbers { set } => {
+                found.story = format!("key numbers, set {set}");
+                found.compare_key_numbers(&self.input(number, Call::Write, set, &[], noise));
             }
             Planned::RecordLengths { set } => {
                 found.story = format!("lengths of a record, set {set}");
@@ -398,6 +410,11 @@ impl Found {
             self.fail(call, what);
         } else if number != 0 && library.buffers != Buffers::new(input, fill) {
             self.fail(call, "a refusal wrote to an output buffer");
+        } else if let Some(what) = wrong_key(call, input, &library) {
+            self.fail(call, what);
+        }
+        if let (0, Some(key)) = (second.number(), key_of(call, input)) {
+            self.keys.push((call, key));
         }
         if call == Call::Respond && (number, second.number()) == (0, 0) {
             self.weigh(Cost::of(input, library.buffers.z2_dagger()));
@@ -459,6 +476,7 @@ impl Found {
     /// the old default says the same.
     fn follow(&mut self, input: &Input, given_out: &Left) {
         let mut next = input.clone();
+        next.key = given_out.answered.key;
         next.z1 = given_out.buffers.z1().to_vec();
         next.z2_dagger = given_out.buffers.z2_dagger().to_vec();
         next.hashed.clone_from(&next.list);
@@ -521,8 +539,9 @@ mod tests {
     #[test]
     fn every_number_has_the_cases_of_both_forms() {
         let planned = Plan::new(1).planned;
-        let kinds: [fn(&Planned) -> bool; 7] = [
+        let kinds: [fn(&Planned) -> bool; 8] = [
             |planned| matches!(planned, Planned::HeaderFields { .. }),
+            |planned| matches!(planned, Planned::KeyNumbers { .. }),
             |planned| matches!(planned, Planned::RecordLengths { .. }),
             |planned| matches!(planned, Planned::OtherForm { .. }),
             |planned| matches!(planned, Planned::SpareBits { .. }),

@@ -74,7 +74,7 @@ impl Found {
             record[..4].copy_from_slice(form.letters());
         });
         let header = |form: Form, record: &mut Vec<u8>| {
-            record[..HEADER].copy_from_slice(&form.header(set));
+            record[..HEADER].copy_from_slice(&form.header(set, right.key));
         };
         self.compare_records(&right, header);
         self.compare_records(&right, |form, record| {
@@ -128,7 +128,7 @@ impl Found {
     /// of a byte; among zeros and among ones, so that a bit which goes astray shows.
     pub fn compare_entry_bits(&mut self, right: &Input) {
         for (z1, z2_dagger) in [(0, 0), (-1, -1)] {
-            let mut held = Held::new(set_of(right), &[z1; N], &[0; N], &right.list);
+            let mut held = Held::new(set_of(right), right.key, &[z1; N], &[0; N], &right.list);
             held.z2_dagger[..16].fill(z2_dagger);
             held.z2_dagger[N - 16..].fill(z2_dagger);
             for form in Form::ALL {
@@ -188,6 +188,7 @@ impl Found {
             *next.record_in(form) = written.buffers.record().to_vec();
             let read = self.compare(reader, &next);
             let same = read.answered.set == set.number()
+                && read.answered.key == next.key
                 && read.buffers.z1() == next.z1
                 && read.buffers.z2_dagger() == next.z2_dagger
                 && read.buffers.list()[..set.kappa()] == next.list;
@@ -227,6 +228,7 @@ impl Found {
         };
         let mut next = input.clone();
         next.set = read.answered.set;
+        next.key = read.answered.key;
         next.z1 = read.buffers.z1().to_vec();
         next.z2_dagger = read.buffers.z2_dagger().to_vec();
         next.list = read.buffers.list()[..set.kappa()].to_vec();

@@ -4,6 +4,7 @@ use second::parameters::THRESHOLDS;
 use second::record::write_in;
 use second::testing::boundary::signature_of_sum;
 use second::testing::calls::{Input, OutputLengths};
+use second::testing::key_numbers;
 use second::testing::keys::Key;
 use second::testing::noise::Noise;
 use second::{Form, Set};
@@ -17,6 +18,7 @@ pub fn right_input(set: Set, key: &Key, noise: &mut Noise) -> Input {
     let list = noise.list(set);
     let mut input = Input {
         set: set.number(),
+        key: key_numbers::any(noise),
         f: key.f.clone(),
         g: key.g.clone(),
         a: key.a.clone(),
@@ -46,13 +48,13 @@ pub fn short_mask(set: Set, noise: &mut Noise) -> Vec<i16> {
     noise.mask_of_deviation(set.sigma() as f64 / 4.0)
 }
 
-/// Puts a signature of this sum, and the records of it.
+/// Puts a signature of this sum, and the records of it, with the input's key number.
 fn sign_with_sum(input: &mut Input, set: Set, sum: i64, noise: &mut Noise) {
     (input.z1, input.z2_dagger) = signature_of_sum(set, sum, noise);
     for form in Form::ALL {
         let (z1, z2_dagger, list) = (&input.z1, &input.z2_dagger, &input.list);
-        let mut record = vec![0; form.total(set)];
-        let outcome = write_in(form, set.number(), z1, z2_dagger, list, &mut record);
+        let (number, mut record) = (set.number(), vec![0; form.total(set)]);
+        let outcome = write_in(form, number, input.key, z1, z2_dagger, list, &mut record);
         outcome.expect("the signature is within the limits");
         *input.record_in(form) = record;
     }

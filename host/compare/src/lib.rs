@@ -7,6 +7,7 @@ pub mod costs;
 pub mod faults;
 pub mod forms;
 pub mod inputs;
+pub mod key_numbers;
 pub mod library;
 pub mod program;
 pub mod run;

@@ -5,7 +5,9 @@ use second::testing::calls::{Answered, Call, Input, Outputs};
 
 /// Runs a call of the library.
 pub fn run(call: Call, input: &Input, out: Outputs) -> Answered {
-    let Input { set, list, a, .. } = input;
+    let Input {
+        set, key, list, a, ..
+    } = input;
     let outcome = match call {
         Call::KeyTest => bursztok::key_test(*set, &input.f, &input.g, a),
         Call::Commitment => bursztok::commitment(*set, a, &input.y1, &input.y2, out.rounded),
@@ -20,10 +22,10 @@ pub fn run(call: Call, input: &Input, out: Outputs) -> Answered {
         }
         Call::Compare => bursztok::compare(*set, list, &input.hashed),
         Call::CompareDefaultOne => bursztok::compare_default_one(*set, list, &input.hashed),
-        Call::Write => bursztok::write(*set, &input.z1, &input.z2_dagger, list, out.record),
+        Call::Write => bursztok::write(*set, *key, &input.z1, &input.z2_dagger, list, out.record),
         Call::WritePacked => {
             let (z1, z2_dagger) = (&input.z1, &input.z2_dagger);
-            bursztok::write_packed(*set, z1, z2_dagger, list, out.record)
+            bursztok::write_packed(*set, *key, z1, z2_dagger, list, out.record)
         }
         Call::Pack => bursztok::pack(&input.record, out.record),
         Call::Unpack => bursztok::unpack(&input.packed, out.record),
@@ -39,9 +41,10 @@ pub fn run(call: Call, input: &Input, out: Outputs) -> Answered {
                 thresholds: &input.thresholds,
                 words: &input.words,
             };
-            let response = bursztok::respond(*set, challenge, out.z1, out.z2_dagger);
+            let response = bursztok::respond(*set, *key, challenge, out.z1, out.z2_dagger);
             return Answered {
                 words: response.words,
+                key: response.key,
                 ..answered(response.outcome)
             };
         }
@@ -73,6 +76,7 @@ fn answered(outcome: Result<(), Refusal>) -> Answered {
 fn reading(reading: Reading) -> Answered {
     Answered {
         set: reading.set,
+        key: reading.key,
         ..answered(reading.outcome)
     }
 }

@@ -1,6 +1,7 @@
 //! Counts of compared calls, by call and by number, and the verdict on them.
 
 use crate::cases::Found;
+use second::form::KEY_NOT_STATED;
 use second::testing::calls::Call;
 use second::Set;
 use std::collections::BTreeMap;
@@ -17,6 +18,8 @@ pub struct Tally {
     costs: BTreeMap<u32, Seen>,
     /// The same where the masks were steered to the figure.
     steered: BTreeMap<u32, Seen>,
+    /// The key numbers of the calls that were done.
+    keys: BTreeMap<Call, SeenKeys>,
 }
 
 /// Responses of one set, and how far down and up they cost.
@@ -27,6 +30,34 @@ struct Seen {
     highest: i64,
 }
 
+/// Key numbers of one call.
+#[derive(Clone, Copy, Default)]
+struct SeenKeys {
+    not_stated: bool,
+    /// All bits that were set in some.
+    bits: u32,
+}
+
+impl SeenKeys {
+    fn add(&mut self, key: u32) {
+        self.not_stated |= key == KEY_NOT_STATED;
+        self.bits |= key;
+    }
+
+    /// What was not seen, in words.
+    fn missing(self) -> Vec<String> {
+        let bytes = self.bits.to_le_bytes().into_iter().zip(0..);
+        let bytes = bytes.filter(|(byte, _)| *byte == 0);
+        let mut missing: Vec<String> = bytes
+            .map(|(_, place)| format!("byte {place} of a key number"))
+            .collect();
+        if !self.not_stated {
+            missing.push("no key number".to_string());
+        }
+        missing
+    }
+}
+
 /// What a run comes to.
 #[derive(Debug, PartialEq, Eq)]
 pub struct Verdict {
@@ -34,8 +65,8 @@ pub struct Verdict {
     pub passed: u64,
     /// Comparisons that failed, and what was never reached.
     pub failed: u64,
-    /// The numbers that a call should have given and did not, and the figures that no response
-    /// reached.
+    /// The numbers that a call should have given and did not, the figures that no response reached,
+    /// and the bytes of a key number that a call was never done with.
     pub missing: Vec<String>,
 }
 
@@ -53,6 +84,9 @@ impl Tally {
             seen.responses += 1;
             seen.lowest = cost.lowest.min(seen.lowest);
             seen.highest = cost.highest.max(seen.highest);
+        }
+        for &(call, key) in &found.keys {
+            self.keys.entry(call).or_default().add(key);
         }
         let wrong = found.failures.len() as u64;
         self.wrong += wrong;
@@ -72,8 +106,9 @@ impl Tally {
         self.failing_cases
     }
 
-    /// The verdict on a whole run. A number that a call never gave leaves its refusal untested, and
-    /// a figure that no response reached, up and down, may be too large: that fails the run.
+    /// The verdict on a whole run. A number that a call never gave leaves its refusal untested, a
+    /// figure that no response reached, up and down, may be too large, and a byte of a key number that
+    /// a call was never done with may be lost: that fails the run.
     pub fn verdict(&self) -> Verdict {
         let mut missing = Vec::new();
         for call in Call::ALL {
@@ -88,6 +123,11 @@ impl Tally {
             if seen.lowest > -set.figure() || seen.highest < set.figure() {
                 missing.push(format!("response, figure of set {}", set.number()));
             }
+        }
+        for call in Call::ALL.into_iter().filter(|call| call.has_key()) {
+            let seen = self.keys.get(&call).copied().unwrap_or_default();
+            let unseen = seen.missing().into_iter();
+            missing.extend(unseen.map(|what| format!("{}, {what}", call.name())));
         }
         Verdict {
             passed: self.passed,
@@ -152,8 +192,8 @@ mod tests {
         }
     }
 
-    /// A tally in which every call gave every number of its own but these, and every figure was
-    /// reached.
+    /// A tally in which every call gave every number of its own but these, every figure was reached,
+    /// and key numbers went into every call that has one.
     fn without(left_out: Option<(Call, u32)>) -> Tally {
         let mut tally = Tally::default();
         for set in Set::ALL {
@@ -163,10 +203,45 @@ mod tests {
             let numbers = call.numbers().iter().map(|&number| (call, number));
             tally.add(&Found {
                 answers: numbers.filter(|&answer| Some(answer) != left_out).collect(),
+                keys: keys(call, &[0, u32::MAX]),
                 ..Found::default()
             });
         }
         tally
+    }
+
+    /// These key numbers of a call, where it has one.
+    fn keys(call: Call, numbers: &[u32]) -> Vec<(Call, u32)> {
+        let numbers = numbers.iter().filter(|_| call.has_key());
+        numbers.map(|&number| (call, number)).collect()
+    }
+
+    #[test]
+    fn a_byte_of_a_key_number_that_is_never_seen_fails_the_run() {
+        for call in Call::ALL.into_iter().filter(|call| call.has_key()) {
+            for (numbers, missing) in [
+                (&[0, 0x0101_0101][..], &[][..]),
+                (&[0, 1, 256, 65_536, 16_777_216], &[]),
+                (&[0, 0xff_ffff], &["byte 3 of a key number"]),
+                (&[0, 0xff00_00ff, 0xff00], &["byte 2 of a key number"]),
+                (&[u32::MAX], &["no key number"]),
+            ] {
+                let mut tally = without(None);
+                tally.keys.remove(&call);
+                tally.add(&Found {
+                    keys: keys(call, numbers),
+                    ..Found::default()
+                });
+                let name = call.name();
+                let missing: Vec<String> = missing
+                    .iter()
+                    .map(|what| format!("{name}, {what}"))
+                    .collect();
+                let verdict = tally.verdict();
+                assert_eq!(verdict.missing, missing);
+                assert_eq!(verdict.failed, missing.len() as u64);
+            }
+        }
     }
 
     #[test]

@@ -155,6 +155,14 @@ fn the_headers_lengths_are_those_of_the_bindings() {
 }
 
 #[test]
+fn no_key_number_is_zero_everywhere() {
+    let stated = (bursztok::KEY_NOT_STATED, second::form::KEY_NOT_STATED);
+    assert_eq!(stated, (0, 0));
+    let header = text("include/bursztok.h");
+    assert!(header.contains("\n#define BURSZTOK_KEY_NOT_STATED 0\n"));
+}
+
+#[test]
 fn the_header_tells_the_sizes() {
     let header = text("include/bursztok.h");
     let words: Vec<&str> = header.split([' ', '*', '\n']).collect();

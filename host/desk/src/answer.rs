@@ -1,6 +1,6 @@
 //! What a subcommand answers, as text or as one line of JSON.
 
-use crate::failure::{form_value, Failure};
+use crate::failure::{form_value, key_value, Failure};
 use crate::json::{object, Value};
 use second::Form;
 
@@ -10,6 +10,8 @@ pub struct Done {
     /// The call whose answer it is.
     pub call: &'static str,
     pub set: u32,
+    /// The key number of the record that was read or written.
+    pub key: Option<u32>,
     /// The form of the record that was read or written; of two, of the one that was written.
     pub form: Option<Form>,
     /// The words that the draw took.
@@ -30,6 +32,7 @@ pub fn json_of(outcome: &Result<Done, Failure>) -> String {
                 ("meaning", Value::Text("done".to_string())),
                 ("words", done.words.map_or(Value::Null, Value::Number)),
                 ("set", Value::Number(done.set.into())),
+                ("key", key_value(done.key)),
                 ("form", form_value(done.form)),
                 ("cause", Value::Text(String::new())),
             ]);

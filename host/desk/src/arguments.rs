@@ -1,6 +1,7 @@
 //! The options of a subcommand, and the files that they name.
 
 use crate::failure::Failure;
+use bursztok::KEY_NOT_STATED;
 use second::{Form, Set};
 use shell::console::shown;
 use shell::files::{is_stream, same_file};
@@ -132,6 +133,19 @@ impl Arguments {
             let (word, last) = (shown(word), Set::ALL.len());
             self.fault(format!(
                 "--set is '{word}', expected a set number (1 to {last}, or 0 for set 4)"
+            ))
+        })
+    }
+
+    /// The key number of the record that is to be written; not stated where the option is not given.
+    pub fn key(&self) -> Result<u32, Failure> {
+        let Some(word) = self.given("key") else {
+            return Ok(KEY_NOT_STATED);
+        };
+        word.parse().map_err(|_| {
+            let (word, last) = (shown(word), u32::MAX);
+            self.fault(format!(
+                "--key is '{word}', expected a key number (1 to {last}, or 0 for none)"
             ))
         })
     }

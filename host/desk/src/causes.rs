@@ -5,7 +5,7 @@ use crate::failure::Refused;
 use crate::header::wrong_field;
 use crate::lent::Vector;
 use crate::record::Record;
-use bursztok::Refusal;
+use bursztok::{Refusal, KEY_NOT_STATED};
 use second::parameters::KeyCounts;
 use second::{Form, Set};
 use std::ops::RangeInclusive;
@@ -24,6 +24,7 @@ pub fn explain(refused: &mut Refused, set: u32, vectors: &[Vector]) {
         let sources: Vec<&str> = named(names).iter().map(|v| v.source.as_str()).collect();
         sources.join(", ")
     };
+    let stated = refused.key.filter(|key| *key != KEY_NOT_STATED);
     let causes = &mut refused.causes;
     match refused.refusal {
         Refusal::NoSuchSet => {
@@ -80,6 +81,13 @@ pub fn explain(refused: &mut Refused, set: u32, vectors: &[Vector]) {
         Refusal::ListsDiffer => {
             if let [list, hashed] = named(&["list", "hashed"])[..] {
                 causes.extend(difference(list, hashed));
+                // A public key of another number would do this.
+                if let (Some(key), [a]) = (stated, &named(&["a"])[..]) {
+                    let (list, a) = (&list.source, &a.source);
+                    causes.push(format!(
+                        "{list} states key number {key}; the public key was {a}"
+                    ));
+                }
             }
         }
         _ => {}
@@ -199,6 +207,7 @@ mod tests {
             call: "test",
             refusal: Refusal::outcome(number, place).unwrap_err(),
             set: 0,
+            key: lent.key,
             form: None,
             words: None,
             causes: Vec::new(),
@@ -290,5 +299,12 @@ mod tests {
         assert_eq!(causes(5, 0, &lent), [falls]);
         let differ = "the list in list.txt and hashed.txt differ: entry 22 is 22 and 21";
         assert_eq!(causes(12, 0, &lent), [differ]);
+        // The key number that the record states, beside the key that was taken.
+        lent.add("a", "a.txt".to_string(), &[0; 512], Some(512));
+        lent.key = Some(0);
+        assert_eq!(causes(12, 0, &lent), [differ]);
+        lent.key = Some(u32::MAX);
+        let states = "list.txt states key number 4294967295; the public key was a.txt";
+        assert_eq!(causes(12, 0, &lent), [differ, states]);
     }
 }

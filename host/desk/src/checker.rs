@@ -8,7 +8,7 @@ use crate::arguments::Arguments;
 use crate::failure::{Failure, Named};
 use crate::hash::hashed_by;
 use crate::lent::{source_of, Lent};
-use crate::record::{rebuild, Record, Signature};
+use crate::record::{key_sentence, rebuild, Record, Signature};
 use crate::signer::explained;
 use bursztok::VECTOR;
 use shell::console::shown;
@@ -29,6 +29,7 @@ fn read_and_rebuild(arguments: &Arguments) -> Result<Rebuilt, Failure> {
     let record = Record::open(&arguments.input("record")?)?;
     let signature = record.read()?;
     record.lend(&mut lent, signature.entries());
+    lent.key = Some(signature.key);
     let vector = explained(rebuild(&a, &signature), signature.set, &lent)?;
     Ok(Rebuilt {
         record,
@@ -42,15 +43,16 @@ pub fn rebuild_alone(arguments: &Arguments) -> Result<Done, Failure> {
     let out = arguments.output("out", &["a", "record"])?;
     let rebuilt = read_and_rebuild(arguments)?;
     write_file(&out, &text_of("rebuilt", &rebuilt.vector))?;
-    let Signature { set, form, .. } = rebuilt.signature;
-    let out = out.display();
+    let Signature { set, key, form, .. } = rebuilt.signature;
+    let (out, stated) = (out.display(), key_sentence(key));
     Ok(Done {
         call: "rebuild",
         set,
+        key: Some(key),
         form: Some(form),
         said: format!(
-            "The record reads as one of set {set}, and its rebuilt vector is in {out}. Nothing is \
-             said of any sheet: 'bursztok check' does that."
+            "The record reads as one of set {set}, and its rebuilt vector is in {out}. {stated} \
+             Nothing is said of any sheet: 'bursztok check' does that."
         ),
         ..Done::default()
     })
@@ -115,15 +117,16 @@ fn compare(
     source: String,
     said: String,
 ) -> Result<Done, Failure> {
-    let Signature { set, form, .. } = rebuilt.signature;
+    let Signature { set, key, form, .. } = rebuilt.signature;
     rebuilt.lent.add("hashed", source, &hashed, None);
     let outcome = bursztok::compare(set, &rebuilt.signature.list, &hashed).named("comparison");
     explained(outcome, set, &rebuilt.lent)?;
     Ok(Done {
         call: "comparison",
         set,
+        key: Some(key),
         form: Some(form),
-        said,
+        said: format!("{said} {}", key_sentence(key)),
         ..Done::default()
     })
 }

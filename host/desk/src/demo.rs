@@ -4,7 +4,7 @@
 
 use crate::arguments::Arguments;
 use crate::failure::{Failure, Named, Refused};
-use crate::record::{bytes_of, rebuild, record_name, record_of, Record, Signature};
+use crate::record::{bytes_of, key_name, rebuild, record_name, record_of, Record, Signature};
 use crate::signer;
 use bursztok::{Challenge, Response, VECTOR};
 use second::testing::hash::list_of;
@@ -24,6 +24,9 @@ use std::time::{Duration, Instant};
 const SHEET: &str = "Custody transfer 4711: 138,240.7 m3 of LNG at -161.2 C, berth 3, 06:40.";
 const CHANGED_SHEET: &str =
     "Custody transfer 4711: 138,420.7 m3 of LNG at -161.2 C, berth 3, 06:40.";
+
+/// The number that the ship's key has.
+const KEY_NUMBER: u32 = 7;
 
 pub fn demo(arguments: &Arguments) -> Result<ExitCode, Failure> {
     let number = arguments.number_or("set", 0)?;
@@ -69,9 +72,8 @@ pub fn demo(arguments: &Arguments) -> Result<ExitCode, Failure> {
             Form::Plain => "",
             Form::Packed => " --packed",
         };
-        say!(
-            "  bursztok sign --set {number} --folder {folder} --record {folder}/again.record{packed}"
-        );
+        say!("  bursztok sign --set {number} --key {KEY_NUMBER} --folder {folder} \\");
+        say!("    --record {folder}/again.record{packed}");
         say!("  bursztok check --a {folder}/a.txt --record {folder}/again.record \\");
         say!("    --hash 'bursztok-second hash {number}' --sheet {folder}/sheet.txt");
     }
@@ -105,13 +107,15 @@ fn make_key(set: Set, noise: &mut Noise) -> Result<Key, Failure> {
     say!("   f and g are secret and small, a = (2g + 1) / f modulo 12289 is public.");
     let key = published(set, noise);
     bursztok::key_test(set.number(), &key.f, &key.g, &key.a).named("key test")?;
-    say!("   The library's key test gives 0: the key holds.\n");
+    say!("   The library's key test gives 0: the key holds. It is key number {KEY_NUMBER}.\n");
     Ok(key)
 }
 
 struct Signed {
     committed: Vec<u16>,
     last_try: Try,
+    /// The key number.
+    key: u32,
     z1: Vec<i16>,
     z2_dagger: Vec<i8>,
 }
@@ -147,10 +151,12 @@ fn try_to_sign(
         thresholds: &last_try.thresholds,
         words: &last_try.words,
     };
-    let response = bursztok::respond(set.number(), challenge, &mut z1, &mut z2_dagger);
+    let number = set.number();
+    let response = bursztok::respond(number, KEY_NUMBER, challenge, &mut z1, &mut z2_dagger);
     let signed = Signed {
         committed,
         last_try,
+        key: response.key,
         z1,
         z2_dagger,
     };
@@ -207,8 +213,11 @@ fn hand_over(form: Form, set: Set, signed: &Signed) -> Result<Vec<u8>, Failure> 
 }
 
 fn record_of_try(form: Form, set: Set, signed: &Signed) -> Result<Vec<u8>, Failure> {
-    let list = &signed.last_try.list;
-    record_of(form, set.number(), &signed.z1, &signed.z2_dagger, list)
+    let (list, number) = (&signed.last_try.list, set.number());
+    let Signed {
+        key, z1, z2_dagger, ..
+    } = signed;
+    record_of(form, number, *key, z1, z2_dagger, list)
 }
 
 fn read_record(record: &[u8]) -> Result<Signature, Failure> {
@@ -229,12 +238,18 @@ fn check_aloud(
     record: &[u8],
     committed: &[u16],
 ) -> Result<Signature, Failure> {
-    say!("4. The shore holds the public key, the sheet and the record.");
+    say!("4. The shore holds the public keys of its ships, the sheet and the record.");
     let signature = read_record(record)?;
+    let stated = key_name(signature.key);
     say!(
-        "   The reader gives 0: a signature of set {}.",
+        "   The reader gives 0: a signature of set {}, {stated}.",
         signature.set
     );
+    if signature.key != KEY_NUMBER {
+        let what = format!("the ship signed with key number {KEY_NUMBER}, and it is {stated}");
+        return Err(Failure::Fault(what));
+    }
+    say!("   So the shore takes the public key of that number, and tries no other.");
     let rebuilt = check(set, key, &signature, SHEET)?;
     say!(
         "   The rebuild gives 0; it starts {} ..",

@@ -24,6 +24,8 @@ pub struct Refused {
     pub refusal: Refusal,
     /// The set that was asked for, or that the record states; 0 where none is known.
     pub set: u32,
+    /// The key number of the record, where one was read.
+    pub key: Option<u32>,
     /// The form whose letters open the record, where there is one.
     pub form: Option<Form>,
     /// The words that the draw took, where the call has a draw.
@@ -42,6 +44,7 @@ impl Failure {
             call,
             refusal,
             set: 0,
+            key: None,
             form: None,
             words: None,
             causes: Vec::new(),
@@ -79,6 +82,7 @@ impl Failure {
                 ("meaning", text(refused.refusal.meaning())),
                 ("words", refused.words.map_or(Value::Null, Value::Number)),
                 ("set", number(refused.set)),
+                ("key", key_value(refused.key)),
                 ("form", form_value(refused.form)),
                 ("cause", Value::Text(refused.causes.join("; "))),
             ],
@@ -89,11 +93,18 @@ impl Failure {
                 ("meaning", Value::Null),
                 ("words", Value::Null),
                 ("set", Value::Null),
+                ("key", Value::Null),
                 ("form", Value::Null),
                 ("cause", text(message)),
             ],
         }
     }
+}
+
+/// The key number of a record in a JSON answer: 0 where the record states none, null where none was read
+/// or written.
+pub fn key_value(key: Option<u32>) -> Value {
+    key.map_or(Value::Null, |key| Value::Number(key.into()))
 }
 
 /// The form of a record in a JSON answer.

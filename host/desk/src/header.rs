@@ -1,7 +1,8 @@
 //! The fields of a record's header, what stands in them and what has to.
 
 use crate::record::{bytes_of, Record};
-use second::form::{Section, FIELDS};
+use bursztok::KEY_NOT_STATED;
+use second::form::{Section, FIELDS, KEY_FIELD};
 use second::{Form, Set};
 use std::ops::Range;
 
@@ -24,7 +25,7 @@ const NAMES: [&str; FIELDS.len()] = [
     "count of the list",
     "offset of the list",
     "total",
-    "zero",
+    "key number",
 ];
 
 pub fn fields() -> impl Iterator<Item = Field> {
@@ -36,16 +37,17 @@ impl Field {
     /// What stands there.
     pub fn content(&self, bytes: &[u8]) -> String {
         let bytes = &bytes[self.bytes.clone()];
-        match self.bytes.start {
-            0 => bytes.escape_ascii().to_string(),
-            _ => low_first(bytes).to_string(),
+        match (self.bytes.start, low_first(bytes)) {
+            (0, _) => bytes.escape_ascii().to_string(),
+            (start, KEY_NOT_STATED) if start == KEY_FIELD.start => "0, not stated".to_string(),
+            (_, number) => number.to_string(),
         }
     }
 
     /// What has to stand there in a record of one of these forms that states the set.
     fn expected(&self, forms: &[Form], set: Option<Set>) -> String {
         let contents = |set: Set| {
-            let headers = forms.iter().map(|form| form.header(set));
+            let headers = forms.iter().map(|form| form.header(set, KEY_NOT_STATED));
             let contents: Vec<String> = headers.map(|header| self.content(&header)).collect();
             contents.join(" or ")
         };
@@ -122,7 +124,7 @@ mod tests {
 
     fn right(form: Form) -> Vec<u8> {
         let list: Vec<u16> = (0..30).collect();
-        record_of(form, 3, &[0; 512], &[0; 512], &list).unwrap()
+        record_of(form, 3, 9, &[0; 512], &[0; 512], &list).unwrap()
     }
 
     /// The cause of a record of set 3 that is refused with 13.
@@ -171,7 +173,6 @@ mod tests {
             assert_eq!(told_with(17, 0), said(&wanted));
             let wanted = format!("bytes 18-19, total: {wrong}, {total}");
             assert_eq!(told_with(18, 0), said(&wanted));
-            assert_eq!(told_with(23, 1), said("bytes 20-23, zero: 16777216, 0"));
             let longer = [&right(form)[..], &[0, 0]].concat();
             let wanted = format!("{} bytes, set 3 has {total}", longer.len());
             assert_eq!(told(longer), wanted);

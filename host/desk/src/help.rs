@@ -13,7 +13,7 @@ bursztok: signs and checks cargo sheets with BLISS-B, sets 1 to 8
   bursztok read        read a record into z1, z2 dagger and its list
   bursztok pack        turn a record into a packed one, for a link that is paid by the byte
   bursztok unpack      turn a packed record into a plain one
-  bursztok inspect     show records with their headers and sections
+  bursztok inspect     show records with their key numbers, headers and sections
   bursztok completion  print completion for a shell
 
 Each has --help, also as 'bursztok help SUBCOMMAND'; bursztok --version tells the version. Vectors
@@ -22,20 +22,22 @@ plain (letters BLB1) or packed (BLP1): what reads a record takes either, by its 
 '-' is standard input for a file that is read and standard output for one that is written; what is
 said then goes to standard error. Noise and hash are yours: masks, words, thresholds and lists come
 from files. For trials bursztok-second makes them, with test keys; they are for tests only.
-Sets are 1 to 8; 0 stands for set 4. A file is written whole or not at all: first as FILE.part
-beside it, then renamed.
+Sets are 1 to 8; 0 stands for set 4. A record's key number says which key signed it, from 1 to
+4294967295, and 0 where none is stated. It is not signed itself: the public key decides. A file is
+written whole or not at all: first as FILE.part beside it, then renamed.
 
 Exit status: 0 done; 1 refused, with the file, the cause, number, place and meaning; 2 bad usage or
 a bad file. With --json the answer is one line on standard output, an object with status, call,
-number, place, meaning, words (those that the draw took), set, form (of the record, plain or packed)
-and cause; number and place are null where no call answered, form where there is no record.";
+number, place, meaning, words (those that the draw took), set, key (the record's key number, 0 where
+it states none), form (of the record, plain or packed) and cause; number and place are null where no
+call answered, key where no record was read or written, form where there is none.";
 
 pub const DEMO: &str = "\
 bursztok demo [--set N] [--seed N] [--sheets N] [--packed] [--folder DIR]
 
 Makes a test key, signs a sheet on the ship, hands the record over, checks it on the shore, and
 shows damaged records refused. The key, the masks and the hash are the second program's, for tests
-only; everything that signs and checks is the library's.
+only; everything that signs and checks is the library's. The key has number 7.
 
   --set N       the parameter set, 1 to 8, or 0 for set 4 (default 0)
   --seed N      what key and noise are made from (default 1)
@@ -77,7 +79,8 @@ its place before all are written.
   --json                the answer as JSON";
 
 pub const SIGN: &str = "\
-bursztok sign --set N (--folder DIR | --f FILE --g FILE ..) --record FILE [--packed] [--json]
+bursztok sign --set N [--key N] (--folder DIR | --f FILE --g FILE ..) --record FILE [--packed]
+              [--json]
 
 Answers a list for the masks that it was hashed from, and writes the record.
 Refusals in order: 1, 2, 3, 4, 5, 15, 7, 6, then 8 or 9 as the walk ends, then 10, 11; 7 can't
@@ -85,6 +88,8 @@ occur.
 With 8, 10 or 11 start again with new masks; with 9 lend more words.
 
   --set N          the parameter set
+  --key N          the key number, 0 to 4294967295, by which a desk finds the public key (default
+                   0, not stated)
   --folder DIR     holds f, g, a, y1, y2, list, sign, thresholds and words, each with .txt
   --f, --g, --a, --y1, --y2, --list, --thresholds, --words FILE
                    name a file of its own
@@ -99,7 +104,7 @@ bursztok check --a FILE --record FILE --rebuilt FILE --hashed FILE [--json]
 
 Reads a record, plain or packed, rebuilds what its signer committed to, and compares the list in the
 record with the one that is hashed from the rebuilt vector and the sheet. Exit status 0 says that they
-are the same.
+are the same. It tells the key number that the record states; the verdict is on the public key --a.
 Refusals in order: reader 13, 5, 10, 11; rebuild 2, 3; comparison 5, 12.
 
 The hash is yours. With --hash it is run here, by sh: COMMAND gets the rebuilt vector on its
@@ -119,8 +124,9 @@ that is not what the record rebuilds to is refused. A list that comes from the s
 pub const REBUILD: &str = "\
 bursztok rebuild --a FILE --record FILE --out FILE [--json]
 
-Reads a record, plain or packed, and writes the vector that its signer committed to. That says nothing
-of a sheet: hash the vector with the sheet, and let 'bursztok check' compare.
+Reads a record, plain or packed, writes the vector that its signer committed to, and tells the record's
+key number. That says nothing of a sheet: hash the vector with the sheet, and let 'bursztok check'
+compare.
 Refusals in order: reader 13, 5, 10, 11; rebuild 2, 3.
 
   --a FILE       the public key
@@ -129,12 +135,13 @@ Refusals in order: reader 13, 5, 10, 11; rebuild 2, 3.
   --json         the answer as JSON";
 
 pub const WRITE: &str = "\
-bursztok write --set N (--folder DIR | --z1 FILE --z2 FILE --list FILE) --record FILE [--packed]
-               [--json]
+bursztok write --set N [--key N] (--folder DIR | --z1 FILE --z2 FILE --list FILE) --record FILE
+               [--packed] [--json]
 
 Writes a record. Refusals in order: 1, 2, 5, 10, 11.
 
   --set N                  the parameter set; 0 is written as 4
+  --key N                  the key number, 0 to 4294967295 (default 0, not stated)
   --folder DIR             holds z1.txt, z2.txt and list.txt
   --z1, --z2, --list FILE  name a file of its own
   --record FILE            where the record goes
@@ -144,14 +151,15 @@ Writes a record. Refusals in order: 1, 2, 5, 10, 11.
 pub const READ: &str = "\
 bursztok read --record FILE --folder DIR [--json]
 
-Reads a record, plain or packed, and writes z1.txt, z2.txt and list.txt to DIR.
+Reads a record, plain or packed, writes z1.txt, z2.txt and list.txt to DIR, and tells its set and its
+key number, which says which key signed.
 Refusals in order: 13, 5, 10, 11.";
 
 pub const PACK: &str = "\
 bursztok pack --record FILE --out FILE [--json]
 
 Turns a record into a packed one, which holds the same signature in 468 to 546 bytes fewer: an entry
-of z1 takes 13 bits, one of z2 dagger 4, a place of the list 9.
+of z1 takes 13 bits, one of z2 dagger 4, a place of the list 9. The key number stays.
 Refusals in order: 13 (a packed record's letters among them), 5, 10, 11.
 
   --record FILE  the record
@@ -161,7 +169,7 @@ Refusals in order: 13 (a packed record's letters among them), 5, 10, 11.
 pub const UNPACK: &str = "\
 bursztok unpack --record FILE --out FILE [--json]
 
-Turns a packed record into the plain one that it was packed from, byte for byte.
+Turns a packed record into the plain one that it was packed from, byte for byte, its key number too.
 Refusals in order: 13 (a plain record's letters and a spare bit that is set among them), 5, 10, 11.
 
   --record FILE  the packed record
@@ -172,9 +180,10 @@ pub const INSPECT: &str = "\
 bursztok inspect FILE.. [--json]
 bursztok inspect --record FILE
 
-Shows the header of a record, plain or packed, field by field; where each section lies, the bits of
-its entries and what it holds; the bytes that packing saves; and the reader's answer. What the reader
-refused is marked. Several records get a line each, and a total.
+Shows the header of a record, plain or packed, field by field, its key number among them; where each
+section lies, the bits of its entries and what it holds; the bytes that packing saves; and the reader's
+answer. What the reader refused is marked. Several records get a line each, with the key number, and a
+total.
 Refusals: the reader's, 13, 5, 10, 11. Exit status 1 where any record was refused, 2 where any
 could not be opened.";
 

@@ -4,7 +4,7 @@ use crate::answer::{json_of, Done};
 use crate::arguments::Arguments;
 use crate::failure::Failure;
 use crate::header::{fields, spare_bits, HEADER};
-use crate::record::{bytes_of, reader_name, saved, Part, Record};
+use crate::record::{bytes_of, key_name, reader_name, saved, Part, Record, Signature};
 use bursztok::{Refusal, VECTOR};
 use second::form::Section;
 use second::{Form, Set};
@@ -24,7 +24,7 @@ pub fn inspect(arguments: &Arguments) -> Result<ExitCode, Failure> {
         [] => Err(arguments.fault("no record is named")),
         [path] if !arguments.has("json") => {
             let record = Record::open(path)?;
-            let outcome = record.read().map(|signature| signature.set);
+            let outcome = record.read();
             print(format_args!("{}", in_full(&record, &outcome)));
             outcome.map(|_| ExitCode::SUCCESS)
         }
@@ -83,22 +83,24 @@ fn in_lines(paths: &[PathBuf], json: bool) -> ExitCode {
 fn one(path: &Path) -> Result<Done, Failure> {
     let record = Record::open(path)?;
     let signature = record.read()?;
-    let (set, form) = (signature.set, signature.form);
-    let (size, saved) = (record.size(), saved(set));
+    let Signature { set, key, form, .. } = signature;
+    let (stated, size, saved) = (key_name(key), record.size(), saved(set));
+    let said = format!("signature of set {set}, {stated}, {size}");
     Ok(Done {
         call: reader_name(form),
         set,
+        key: Some(key),
         form: Some(form),
         said: match form {
-            Form::Plain => format!("a signature of set {set}, {size}"),
-            Form::Packed => format!("a packed signature of set {set}, {size}, {saved} saved"),
+            Form::Plain => format!("a {said}"),
+            Form::Packed => format!("a packed {said}, {saved} saved"),
         },
         ..Done::default()
     })
 }
 
 /// The header field by field, the sections, what packing saves, and the reader's verdict.
-fn in_full(record: &Record, outcome: &Result<u32, Failure>) -> String {
+fn in_full(record: &Record, outcome: &Result<Signature, Failure>) -> String {
     let mut text = format!("{}: {}\n", record.source, record.size());
     let verdict = match outcome {
         Err(Failure::Refused(refused)) => Err(refused.refusal),
@@ -112,8 +114,9 @@ fn in_full(record: &Record, outcome: &Result<u32, Failure>) -> String {
     if parts.iter().all(Result::is_ok) {
         text += &form_lines(record, verdict);
     }
-    if let Ok(set) = outcome {
-        text += &format!("reader      done, a signature of set {set}\n");
+    if let Ok(Signature { set, key, .. }) = outcome {
+        let stated = key_name(*key);
+        text += &format!("reader      done, a signature of set {set}, {stated}\n");
     }
     text
 }

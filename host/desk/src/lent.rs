@@ -22,7 +22,9 @@ pub struct Vector {
 #[derive(Default)]
 pub struct Lent {
     pub vectors: Vec<Vector>,
-    /// The form of the record that some of them come from.
+    /// The key number of the record that some of them come from, where it was read.
+    pub key: Option<u32>,
+    /// The form of that record.
     pub form: Option<Form>,
 }
 

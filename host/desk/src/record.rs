@@ -4,7 +4,7 @@ use crate::causes::{explain, explain_header};
 use crate::failure::{Failure, Named};
 use crate::header::HEADER;
 use crate::lent::{source_of, Lent};
-use bursztok::{Refusal, LIST, RECORD, VECTOR};
+use bursztok::{Refusal, KEY_NOT_STATED, LIST, RECORD, VECTOR};
 use second::form::Section;
 use second::ring::whole;
 use second::{Form, Set};
@@ -32,6 +32,7 @@ pub struct Part {
 pub struct Signature {
     pub form: Form,
     pub set: u32,
+    pub key: u32,
     pub z1: Vec<i16>,
     pub z2_dagger: Vec<i8>,
     pub list: Vec<u16>,
@@ -99,6 +100,7 @@ impl Record {
         Ok(Signature {
             form,
             set: reading.set,
+            key: reading.key,
             z1,
             z2_dagger,
             list,
@@ -223,10 +225,27 @@ pub fn record_name(form: Form) -> &'static str {
     }
 }
 
+/// A key number in words.
+pub fn key_name(key: u32) -> String {
+    match key {
+        KEY_NOT_STATED => "key number not stated".to_string(),
+        _ => format!("key number {key}"),
+    }
+}
+
+/// A key number as a sentence.
+pub fn key_sentence(key: u32) -> String {
+    match key {
+        KEY_NOT_STATED => "Key number: not stated.".to_string(),
+        _ => format!("Key number: {key}."),
+    }
+}
+
 /// The record of a signature, exactly as long as its set's.
 pub fn record_of(
     form: Form,
     set: u32,
+    key: u32,
     z1: &[i16],
     z2_dagger: &[i8],
     list: &[u16],
@@ -236,7 +255,7 @@ pub fn record_of(
         Form::Plain => bursztok::write,
         Form::Packed => bursztok::write_packed,
     };
-    writer(set, z1, z2_dagger, list, &mut record).named(writer_name(form))?;
+    writer(set, key, z1, z2_dagger, list, &mut record).named(writer_name(form))?;
     record.truncate(bytes_of(form, set));
     Ok(record)
 }

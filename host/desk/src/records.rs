@@ -4,31 +4,35 @@ use crate::answer::Done;
 use crate::arguments::Arguments;
 use crate::failure::Failure;
 use crate::lent::Lent;
-use crate::record::{reader_name, writer_name, Record};
+use crate::record::{key_sentence, reader_name, writer_name, Record};
 use crate::record::{record_name, record_of, saved};
 use crate::signer::explained;
 use bursztok::VECTOR;
+use second::form::key_in;
 use second::Form;
 use shell::files::{make_folder, same_file, write_file, write_files};
 use shell::numbers::{joined, text_of};
 use std::path::{Path, PathBuf};
 
 pub fn write(arguments: &Arguments) -> Result<Done, Failure> {
-    let set = arguments.set()?;
+    let (set, key) = (arguments.set()?, arguments.key()?);
     let out = arguments.output("record", &["z1", "z2", "list"])?;
     let mut lent = Lent::default();
     let z1: Vec<i16> = lent.read(arguments, "z1", Some(VECTOR))?;
     let z2_dagger: Vec<i8> = lent.read(arguments, "z2", Some(VECTOR))?;
     let list: Vec<u16> = lent.read(arguments, "list", None)?;
     let form = arguments.form();
-    let record = explained(record_of(form, set, &z1, &z2_dagger, &list), set, &lent)?;
+    let record = record_of(form, set, key, &z1, &z2_dagger, &list);
+    let record = explained(record, set, &lent)?;
     write_file(&out, &record)?;
     let (name, count, out) = (record_name(form), record.len(), out.display());
+    let stated = key_sentence(key);
     Ok(Done {
         call: writer_name(form),
         set,
+        key: Some(key),
         form: Some(form),
-        said: format!("The {name} of {count} bytes is in {out}."),
+        said: format!("The {name} of {count} bytes is in {out}. {stated}"),
         ..Done::default()
     })
 }
@@ -58,6 +62,7 @@ fn convert(
     Ok(Done {
         call,
         set,
+        key: Some(key_in(&converted)),
         form: Some(other),
         said: format!("The {name} of {count} bytes is in {out}, {saved} {than}."),
         ..Done::default()
@@ -87,11 +92,13 @@ pub fn read(arguments: &Arguments) -> Result<Done, Failure> {
     Ok(Done {
         call: reader_name(signature.form),
         set: signature.set,
+        key: Some(signature.key),
         form: Some(signature.form),
         said: format!(
-            "A signature of set {}; z1.txt, z2.txt and list.txt are in {}. The list: {}",
+            "A signature of set {}; z1.txt, z2.txt and list.txt are in {}. {} The list: {}",
             signature.set,
             folder.display(),
+            key_sentence(signature.key),
             joined(&signature.list)
         ),
         ..Done::default()

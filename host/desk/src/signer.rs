@@ -6,7 +6,7 @@ use crate::causes::explain;
 use crate::failure::{Failure, Named, Refused};
 use crate::histogram::histogram;
 use crate::lent::{source_of, Lent};
-use crate::record::{record_name, record_of};
+use crate::record::{key_sentence, record_name, record_of};
 use bursztok::{Challenge, Response, THRESHOLDS, VECTOR};
 use shell::console::shown;
 use shell::files::{is_stream, write_file, write_files};
@@ -31,7 +31,7 @@ pub fn key_test(arguments: &Arguments) -> Result<Done, Failure> {
 /// An outcome with the causes of its refusal.
 pub fn explained<T>(outcome: Result<T, Failure>, set: u32, lent: &Lent) -> Result<T, Failure> {
     let causes = |refused: &mut Refused| {
-        refused.form = lent.form;
+        (refused.key, refused.form) = (lent.key, lent.form);
         explain(refused, set, &lent.vectors);
     };
     outcome.map_err(|failure| failure.with(causes))
@@ -83,7 +83,7 @@ pub fn commit(arguments: &Arguments) -> Result<Done, Failure> {
 }
 
 pub fn sign(arguments: &Arguments) -> Result<Done, Failure> {
-    let set = arguments.set()?;
+    let (set, key) = (arguments.set()?, arguments.key()?);
     let sign = read_sign(arguments)?;
     let mut inputs = vec!["f", "g", "a", "y1", "y2", "list", "thresholds", "words"];
     if arguments.given("sign").is_none() {
@@ -103,21 +103,23 @@ pub fn sign(arguments: &Arguments) -> Result<Done, Failure> {
         words: &lent.read::<u64>(arguments, "words", None)?,
     };
     let (mut z1, mut z2_dagger) = ([0; VECTOR], [0; VECTOR]);
-    let response = bursztok::respond(set, challenge, &mut z1, &mut z2_dagger);
+    let response = bursztok::respond(set, key, challenge, &mut z1, &mut z2_dagger);
     explained(given_out(response), set, &lent)?;
     let form = arguments.form();
-    let record = record_of(form, set, &z1, &z2_dagger, challenge.list)?;
+    let key = response.key;
+    let record = record_of(form, set, key, &z1, &z2_dagger, challenge.list)?;
     write_file(&out, &record)?;
     let (words, count, out) = (response.words, record.len(), out.display());
-    let name = record_name(form);
+    let (name, stated) = (record_name(form), key_sentence(key));
     Ok(Done {
         call: "response",
         set,
+        key: Some(key),
         form: Some(form),
         words: Some(words),
         said: format!(
             "The signature is given out, {words} words taken. The {name} of {count} bytes is in \
-             {out}."
+             {out}. {stated}"
         ),
     })
 }

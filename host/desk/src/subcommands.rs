@@ -84,6 +84,7 @@ pub const SUBCOMMANDS: &[Subcommand] = &[
         "sign",
         &[
             "set",
+            "key",
             "folder",
             "f",
             "g",
@@ -113,7 +114,7 @@ pub const SUBCOMMANDS: &[Subcommand] = &[
     ),
     writes(answers(
         "write",
-        &["set", "folder", "z1", "z2", "list", "record"],
+        &["set", "key", "folder", "z1", "z2", "list", "record"],
         help::WRITE,
         records::write,
     )),

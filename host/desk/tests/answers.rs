@@ -29,7 +29,7 @@ fn inspect_shows_every_field_and_section() {
             format!("header 14   count of the list    {kappa}"),
             "header 16   offset of the list   1560".to_string(),
             format!("header 18   total                {total}"),
-            "header 20   zero                 0".to_string(),
+            "header 20   key number           0, not stated".to_string(),
         ];
         assert_eq!(&lines[..12], wanted);
         let z1: Vec<i16> = bytes[24..1048]
@@ -66,7 +66,7 @@ fn inspect_shows_every_field_and_section() {
         let packed = Form::Packed.total(set);
         let saved = total - packed;
         let form = format!("form        plain; packed it has {packed} bytes, {saved} fewer");
-        let done = format!("reader      done, a signature of set {number}");
+        let done = format!("reader      done, a signature of set {number}, key number not stated");
         assert_eq!(lines[15..], [form, done]);
         assert_eq!(run(&["inspect", "--record", &record]).1, said);
     }
@@ -101,8 +101,8 @@ fn inspect_marks_what_is_wrong() {
         "header 14   count of the list    24  <-- wrong"
     );
     assert_eq!(
-        marked(23, 1),
-        "header 20   zero                 16777216  <-- wrong"
+        marked(18, 7),
+        "header 18   total                1543  <-- wrong"
     );
     assert!(marked(31, 0x7f).contains("<-- wrong: entry 3 is 32"));
     assert_eq!(
@@ -124,7 +124,7 @@ fn inspect_takes_many_records() {
     std::fs::write(&cut, &bytes[..1605]).unwrap();
     let (code, said, _) = run(&["inspect", &record, &record]);
     assert_eq!(code, 0);
-    let line = format!("{record}: a signature of set 2, 1606 bytes");
+    let line = format!("{record}: a signature of set 2, key number not stated, 1606 bytes");
     let total = "2 records: 2 read, 0 refused, 0 not opened";
     assert_eq!(said.lines().collect::<Vec<_>>(), [&line, &line, total]);
     let (code, said, _) = run(&["inspect", &record, &cut]);
@@ -157,9 +157,10 @@ fn answers_are_given_as_json() {
         assert_eq!(out, format!("{line}\n"));
     };
     let done = |call: &str, form: &str| {
+        let key = if form == "null" { "null" } else { "0" };
         format!(
             "{{\"status\":0,\"call\":\"{call}\",\"number\":0,\"place\":0,\"meaning\":\"done\",\
-             \"words\":null,\"set\":1,\"form\":{form},\"cause\":\"\"}}"
+             \"words\":null,\"set\":1,\"key\":{key},\"form\":{form},\"cause\":\"\"}}"
         )
     };
     let (plain, packed) = ("\"plain\"", "\"packed\"");
@@ -189,10 +190,13 @@ fn answers_are_given_as_json() {
     answer(&words, 0, &done("packing", packed));
     let check = ["check", "--a", &a, "--record", &record, "--sheet", &sheet];
     let refused = |call: &str, number: u32, meaning: &str, words: &str, cause: &str| {
-        let form = if call == "comparison" { plain } else { "null" };
+        let (key, form) = match call {
+            "comparison" => ("0", plain),
+            _ => ("null", "null"),
+        };
         format!(
             "{{\"status\":1,\"call\":\"{call}\",\"number\":{number},\"place\":0,\
-             \"meaning\":\"{meaning}\",\"words\":{words},\"set\":1,\"form\":{form},\
+             \"meaning\":\"{meaning}\",\"words\":{words},\"set\":1,\"key\":{key},\"form\":{form},\
              \"cause\":\"{cause}\"}}"
         )
     };
@@ -206,7 +210,7 @@ fn answers_are_given_as_json() {
     let cause = format!("{} holds 0 words", folder.path("words.txt"));
     answer(&sign, 1, &refused("response", 9, none, "0", &cause));
     let usage = "{\"status\":2,\"call\":null,\"number\":null,\"place\":null,\"meaning\":null,\
-                 \"words\":null,\"set\":null,\"form\":null,\
+                 \"words\":null,\"set\":null,\"key\":null,\"form\":null,\
                  \"cause\":\"key-test: --set is missing; try --help\"}";
     answer(&["key-test"], 2, usage);
     // The other way of a check, where it fails without a number.
@@ -246,6 +250,11 @@ fn the_demo_runs_for_every_set() {
             "number 12, place 0:",
             "All 3 hold;",
             "holds on the shore",
+            "It is key number 7.",
+            &format!(
+                "a signature of set {}, key number 7.",
+                Set::asked(number).unwrap() as u32
+            ),
         ] {
             assert!(said.contains(line), "{line}: {said}");
         }
@@ -292,7 +301,9 @@ fn the_demo_keeps_all_that_signing_takes() {
     let kept = folder.path("kept");
     expect(&["demo", "--set=3", "--folder", &kept], 0, "sheet.record");
     let (record, again) = (folder.path("kept/sheet.record"), folder.path("again"));
-    let sign = ["sign", "--set", "3", "--folder", &kept, "--record", &again];
+    let sign = [
+        "sign", "--set", "3", "--key", "7", "--folder", &kept, "--record", &again,
+    ];
     expect(&sign, 0, "given out");
     assert_eq!(
         std::fs::read(&record).unwrap(),
@@ -300,6 +311,7 @@ fn the_demo_keeps_all_that_signing_takes() {
     );
     let demo = ["demo", "--set=3", "--seed=1", "--packed", "--folder", &kept];
     expect(&demo, 0, "/again.record --packed\n");
+    expect(&demo, 0, "bursztok sign --set 3 --key 7 --folder ");
     let packed = [&sign[..], &["--packed"]].concat();
     expect(&packed, 0, "The packed record of 1146 bytes");
     assert_eq!(

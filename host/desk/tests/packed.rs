@@ -130,7 +130,7 @@ fn inspect_shows_bits_and_bytes_saved() {
         let wanted = [
             format!("spare       {spare} {bits} of byte {last}: 0"),
             format!("form        packed; plain it has {plain} bytes, {saved} are saved"),
-            format!("reader      done, a signature of set {number}"),
+            format!("reader      done, a signature of set {number}, key number not stated"),
         ];
         assert_eq!(lines[15..], wanted);
     }
@@ -145,8 +145,10 @@ fn inspect_tells_the_form_of_many() {
     let (code, said, _) = run(&["inspect", &plain, &packed]);
     assert_eq!(code, 0);
     let wanted = [
-        format!("{plain}: a signature of set 8, 1786 bytes"),
-        format!("{packed}: a packed signature of set 8, 1240 bytes, 546 saved"),
+        format!("{plain}: a signature of set 8, key number not stated, 1786 bytes"),
+        format!(
+            "{packed}: a packed signature of set 8, key number not stated, 1240 bytes, 546 saved"
+        ),
         "2 records: 2 read, 0 refused, 0 not opened".to_string(),
     ];
     assert_eq!(said.lines().collect::<Vec<_>>(), wanted);

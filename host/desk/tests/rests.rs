@@ -401,7 +401,7 @@ fn json_names_the_call_that_was_made() {
     ] {
         let line = format!(
             "{{\"status\":0,\"call\":\"{call}\",\"number\":0,\"place\":0,\"meaning\":\"done\",\
-             \"words\":null,\"set\":3,\"form\":null,\"cause\":\"\"}}\n"
+             \"words\":null,\"set\":3,\"key\":null,\"form\":null,\"cause\":\"\"}}\n"
         );
         let words = [&commit("3", &path, outputs)[..], &["--json"]].concat();
         assert_eq!(run(&words), (0, line, String::new()));

@@ -53,28 +53,38 @@ fn a_sheet_is_signed_and_checked_through_files() {
     }
 }
 
-/// 02, C-22: the second program's reader of before, on records that the library wrote.
+/// 02, C-22 and C-13: the second program's readers of before, on records that the library wrote.
 #[test]
-fn an_older_reader_refuses_the_record_of_a_new_set_at_byte_4() {
+fn an_older_reader_refuses_a_new_set_at_byte_4_and_a_key_number_at_byte_20() {
     for set in Set::ALL {
         let folder = Folder::new(&format!("older-{}", set.number()));
         files_of(set, &folder);
         let (path, record) = (folder.path(""), folder.path("record"));
         let number = set.number().to_string();
-        let sign = [
-            "sign", "--set", &number, "--folder", &path, "--record", &record,
-        ];
-        expect(&sign, 0, "given out");
-        let bytes = std::fs::read(&record).unwrap();
-        let older = Edition::OLDER;
-        let (mut z1, mut z2_dagger) = (vec![0; 512], vec![0; 512]);
-        let mut list = vec![0; older.list_buffer()];
-        let reading = older.read(Form::Plain, &bytes, &mut z1, &mut z2_dagger, &mut list);
-        let wanted = match set.like() == set {
-            true => (Ok(()), set.number()),
-            false => (Err(Refusal::header(4)), 0),
-        };
-        assert_eq!((reading.outcome, reading.set), wanted, "{set:?}");
+        for key in ["0", "1"] {
+            let sign = [
+                "sign", "--set", &number, "--key", key, "--folder", &path, "--record", &record,
+            ];
+            expect(&sign, 0, "given out");
+            let bytes = std::fs::read(&record).unwrap();
+            let answer = |edition: Edition| {
+                let (mut z1, mut z2_dagger) = (vec![0; 512], vec![0; 512]);
+                let mut list = vec![0; edition.list_buffer()];
+                let reading = edition.read(Form::Plain, &bytes, &mut z1, &mut z2_dagger, &mut list);
+                (reading.outcome, reading.set)
+            };
+            let refused = |place: usize| (Err(Refusal::header(place)), 0);
+            let done = (Ok(()), set.number());
+            let older = match (set.like() == set, key) {
+                (false, _) => refused(4),
+                (true, "0") => done,
+                (true, _) => refused(20),
+            };
+            assert_eq!(answer(Edition::OLDER), older, "{set:?}, {key}");
+            let before = if key == "0" { done } else { refused(20) };
+            assert_eq!(answer(Edition::BEFORE_KEYS), before, "{set:?}, {key}");
+            assert_eq!(answer(Edition::THIS), done, "{set:?}, {key}");
+        }
     }
 }
 
@@ -556,12 +566,18 @@ fn every_subcommand_has_help_and_completion() {
         assert!(check.contains(option));
         assert!(completion.contains(option));
     }
-    for subcommand in ["sign", "write", "demo"] {
-        assert!(run(&["help", subcommand]).1.contains("[--packed]"));
+    for (subcommand, option, form) in [
+        ("sign", "packed", "[--packed]"),
+        ("write", "packed", "[--packed]"),
+        ("demo", "packed", "[--packed]"),
+        ("sign", "key", "[--key N]"),
+        ("write", "key", "[--key N]"),
+    ] {
+        assert!(run(&["help", subcommand]).1.contains(form));
         let case = format!("        {subcommand}) options='--");
         let mut cases = completion.lines();
         let case = cases.find(|line| line.starts_with(&case)).unwrap();
-        assert!(case.contains(" --packed "), "{case}");
+        assert!(case.contains(&format!(" --{option} ")), "{case}");
     }
     let read = Command::new("bash")
         .args(["-n", "-c", &completion])

@@ -60,16 +60,19 @@ pub fn number_and_place(outcome: Result<(), Refusal>) -> (u32, u32) {
     }
 }
 
-/// What the response answers: the count of words taken stands beside every outcome.
+/// What the response answers: the count of words taken stands beside every outcome, and the key number
+/// that it took, 0 when it refuses.
 #[derive(Clone, Copy, Debug, PartialEq, Eq)]
 pub struct Response {
     pub outcome: Result<(), Refusal>,
     pub words: u64,
+    pub key: u32,
 }
 
-/// What the reader answers: the record's set, 0 when it refuses.
+/// What the reader answers: the record's set and key number, 0 when it refuses.
 #[derive(Clone, Copy, Debug, PartialEq, Eq)]
 pub struct Reading {
     pub outcome: Result<(), Refusal>,
     pub set: u32,
+    pub key: u32,
 }

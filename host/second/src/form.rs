@@ -1,5 +1,6 @@
 //! The forms of a record: paper 01's plain one and paper 02's packed one (C-11). A form is its letters
-//! and the bits of an entry in each section; header, offsets and totals follow.
+//! and the bits of an entry in each section; header, offsets and totals follow. Both have the key number
+//! in the last field of the header (C-13).
 
 use crate::parameters::{Set, LIST_BUFFER, N};
 use crate::ring::Whole;
@@ -20,9 +21,14 @@ pub const FIELDS: [Range<usize>; 11] = [
     14..16,
     16..18,
     TOTAL_FIELD,
-    20..HEADER,
+    KEY_FIELD,
 ];
 pub const TOTAL_FIELD: Range<usize> = 18..20;
+/// The key number; before C-13 four zeros.
+pub const KEY_FIELD: Range<usize> = 20..HEADER;
+
+/// The key number of a signature that states none.
+pub const KEY_NOT_STATED: u32 = 0;
 
 /// A section of a record.
 #[derive(Clone, Copy, Debug, PartialEq, Eq)]
@@ -121,8 +127,8 @@ impl Form {
         self.offset(Section::List) + self.bytes(Section::List, LIST_BUFFER)
     }
 
-    /// The header of a record of this set.
-    pub fn header(self, set: Set) -> [u8; HEADER] {
+    /// The header of a record of this set with this key number.
+    pub fn header(self, set: Set, key: u32) -> [u8; HEADER] {
         let sections = Section::ALL.map(|section| [section.count(set), self.offset(section)]);
         let numbers = sections.into_iter().flatten().chain([self.total(set)]);
         let mut header = [0; HEADER];
@@ -131,6 +137,7 @@ impl Form {
         for (field, number) in header[6..].chunks_exact_mut(2).zip(numbers) {
             field.copy_from_slice(&(number as u16).to_le_bytes());
         }
+        header[KEY_FIELD].copy_from_slice(&key.to_le_bytes());
         header
     }
 
@@ -170,6 +177,12 @@ impl Form {
         };
         (0..section.count(set)).map(entry).collect()
     }
+}
+
+/// The key number in a header: its low byte comes first.
+pub fn key_in(header: &[u8]) -> u32 {
+    let bytes = header[KEY_FIELD].iter().rev();
+    bytes.fold(0, |number, &byte| 256 * number + u32::from(byte))
 }
 
 /// A bit by its place: low first within a byte and from byte to byte.

@@ -1,6 +1,6 @@
 //! The independent second program: the seventeen calls of papers 01 and 02, written from the papers,
 //! and the three that tell a set's sizes. `Edition::OLDER` has the calls on a record as they were
-//! before the longer challenges.
+//! before the longer challenges, `Edition::BEFORE_KEYS` as they were before the key number.
 //!
 //! Every product is the plain signed-wrap sum over whole numbers. Nothing is shared with the
 //! proved library: no code, no table, no transform. One module a section of the paper.

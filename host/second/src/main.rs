@@ -34,11 +34,11 @@ bursztok-second: test files for the desk's tool, made by the second program
       The same of standard input: the vector in two bytes an entry, low first, then the message,
       as 'bursztok check --hash' gives them.
   bursztok-second read RECORD
-      Prints what the reader answers for the file RECORD: number, place and set. A record that
-      opens with the packed letters goes to the packed reader.
+      Prints what the reader answers for the file RECORD: number, place, set and key number. A
+      record that opens with the packed letters goes to the packed reader.
   bursztok-second read-older RECORD
-      The same of the reader before the longer challenges, which knows sets 1 to 4 and no packed
-      record.
+      The same of the reader before the longer challenges, which knows sets 1 to 4, no packed
+      record and no key number.
 
 SET is 1 to 8, or 0 for set 4. '-' stands for standard input. Keys and hash are for tests only.
 Exit status: 0 done, 1 the reader refuses, 2 bad usage or bad file.";
@@ -183,7 +183,11 @@ fn read(edition: Edition, forms: &[RecordForm], words: &[String]) -> Result<Exit
     let mut list = vec![0; edition.list_buffer()];
     let reading = edition.read(form, &record, &mut z1, &mut z2_dagger, &mut list);
     let (number, place) = number_and_place(reading.outcome);
-    say!("number {number}, place {place}, set {}", reading.set);
+    let key = match edition.knows_keys() {
+        true => format!(", key number {}", reading.key),
+        false => String::new(),
+    };
+    say!("number {number}, place {place}, set {}{key}", reading.set);
     Ok(ExitCode::from(u8::from(number != 0)))
 }
 

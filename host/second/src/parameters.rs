@@ -1,6 +1,8 @@
 //! "Parameters": the numbers of a set are asked of the set and stand nowhere else.
 
 use crate::answers::Refusal;
+use crate::form::{FIELDS, KEY_FIELD};
+use std::ops::Range;
 
 /// The number of coefficients of a polynomial.
 pub const N: usize = 512;
@@ -188,18 +190,39 @@ impl Set {
     }
 }
 
-/// A reader of records, by the sets that it knows.
+/// A reader of records, by the sets that it knows and by whether it knows key numbers.
 #[derive(Clone, Copy, Debug)]
 pub struct Edition {
     sets: &'static [Set],
+    keys: bool,
 }
 
 impl Edition {
-    pub const THIS: Edition = Edition { sets: &Set::ALL };
+    pub const THIS: Edition = Edition {
+        sets: &Set::ALL,
+        keys: true,
+    };
+    /// The one before the key number (02, C-13).
+    pub const BEFORE_KEYS: Edition = Edition {
+        sets: &Set::ALL,
+        keys: false,
+    };
     /// The one before the longer challenges.
     pub const OLDER: Edition = Edition {
         sets: &[Set::I, Set::II, Set::III, Set::IV],
+        keys: false,
     };
+
+    pub fn knows_keys(self) -> bool {
+        self.keys
+    }
+
+    /// The fields of a header that it tests. Every number is a key number: an edition that knows them
+    /// has nothing to test there, one that does not wants zeros.
+    pub fn fields(self) -> impl Iterator<Item = Range<usize>> {
+        let tested = move |field: &Range<usize>| *field != KEY_FIELD || !self.keys;
+        FIELDS.into_iter().filter(tested)
+    }
 
     /// The set that a record states, where it is one of these.
     pub fn stated(self, number: u32) -> Option<Set> {

@@ -1,8 +1,8 @@
-//! "The record", and paper 02's packed one (C-11): the writers, the readers, the conversions and the
-//! three section calls.
+//! "The record", and paper 02's packed one (C-11), with the key number (C-13): the writers, the readers,
+//! the conversions and the three section calls.
 
 use crate::answers::{number_and_place, Reading, Refusal};
-use crate::form::{bit, Form, Section, FIELDS, HEADER, TOTAL_FIELD};
+use crate::form::{bit, key_in, Form, Section, HEADER, KEY_NOT_STATED, TOTAL_FIELD};
 use crate::length_rule::length_rule;
 use crate::parameters::{require_lengths, require_vectors, Edition, Set};
 use crate::response::require_list;
@@ -11,23 +11,25 @@ use crate::ring::{whole, Whole};
 /// The writer: 1, 2, 5, 10, 11, 14. A longer output keeps its tail.
 pub fn write(
     set: u32,
+    key: u32,
     z1: &[i16],
     z2_dagger: &[i8],
     list: &[u16],
     out: &mut [u8],
 ) -> Result<(), Refusal> {
-    write_in(Form::Plain, set, z1, z2_dagger, list, out)
+    write_in(Form::Plain, set, key, z1, z2_dagger, list, out)
 }
 
 /// The packed writer: 1, 2, 5, 10, 11, 14. A longer output keeps its tail.
 pub fn write_packed(
     set: u32,
+    key: u32,
     z1: &[i16],
     z2_dagger: &[i8],
     list: &[u16],
     out: &mut [u8],
 ) -> Result<(), Refusal> {
-    write_in(Form::Packed, set, z1, z2_dagger, list, out)
+    write_in(Form::Packed, set, key, z1, z2_dagger, list, out)
 }
 
 /// The reader: 2, 13, 5, 10, 11. List entries after kappa keep their old contents.
@@ -74,6 +76,7 @@ pub fn list_section<'a>(record: &'a [u8], number: &mut u32, place: &mut u32) -> 
 pub fn write_in(
     form: Form,
     set: u32,
+    key: u32,
     z1: &[i16],
     z2_dagger: &[i8],
     list: &[u16],
@@ -81,42 +84,46 @@ pub fn write_in(
 ) -> Result<(), Refusal> {
     let set = Set::asked(set)?;
     require_vectors(&[z1.len(), z2_dagger.len()])?;
-    let held = Held::new(set, z1, z2_dagger, list);
+    let held = Held::new(set, key, z1, z2_dagger, list);
     held.require_proper()?;
     held.put(form, out)
 }
 
-/// From this form to the other one.
+/// From this form to the other one. The key number stays.
 fn convert(form: Form, record: &[u8], out: &mut [u8]) -> Result<(), Refusal> {
     let held = Edition::THIS.held(form, record)?;
     held.put(form.other(), out)
 }
 
-/// What a record holds: a set and the entries of its sections.
+/// What a record holds: a set, a key number and the entries of its sections.
 #[derive(Clone, Debug, PartialEq, Eq)]
 pub struct Held {
     pub set: Set,
+    pub key: u32,
     pub z1: Whole,
     pub z2_dagger: Whole,
     pub list: Whole,
 }
 
 impl Held {
-    pub fn new(set: Set, z1: &[i16], z2_dagger: &[i8], list: &[u16]) -> Held {
+    pub fn new(set: Set, key: u32, z1: &[i16], z2_dagger: &[i8], list: &[u16]) -> Held {
         Held {
             set,
+            key,
             z1: whole(z1),
             z2_dagger: whole(z2_dagger),
             list: whole(list),
         }
     }
 
-    /// What stands in the sections of a record, whose header is not looked at.
+    /// The key number of a record and what stands in its sections; nothing else of the header is
+    /// looked at.
     pub fn of(form: Form, set: Set, record: &[u8]) -> Held {
         let decoded =
             |section: Section| form.decoded(section, set, &record[form.part(section, set)]);
         Held {
             set,
+            key: key_in(record),
             z1: decoded(Section::Z1),
             z2_dagger: decoded(Section::Z2Dagger),
             list: decoded(Section::List),
@@ -125,7 +132,7 @@ impl Held {
 
     /// The record that holds it. It may be one that no writer makes.
     pub fn record(&self, form: Form) -> Vec<u8> {
-        let mut record = form.header(self.set).to_vec();
+        let mut record = form.header(self.set, self.key).to_vec();
         for section in Section::ALL {
             record.extend(form.encoded(section, self.entries(section)));
         }
@@ -179,13 +186,15 @@ impl Edition {
         list: &mut [u16],
     ) -> Reading {
         match self.read_signature(form, record, z1, z2_dagger, list) {
-            Ok(set) => Reading {
+            Ok(held) => Reading {
                 outcome: Ok(()),
-                set: set.number(),
+                set: held.set.number(),
+                key: held.key,
             },
             Err(refusal) => Reading {
                 outcome: Err(refusal),
                 set: 0,
+                key: KEY_NOT_STATED,
             },
         }
     }
@@ -197,7 +206,7 @@ impl Edition {
         z1: &mut [i16],
         z2_dagger: &mut [i8],
         list: &mut [u16],
-    ) -> Result<Set, Refusal> {
+    ) -> Result<Held, Refusal> {
         require_vectors(&[z1.len(), z2_dagger.len()])?;
         require_lengths(&[list.len()], self.list_buffer())?;
         let held = self.held(form, record)?;
@@ -208,7 +217,7 @@ impl Edition {
             *entry = *held as i8;
         }
         list[..held.set.kappa()].copy_from_slice(&held.places());
-        Ok(held.set)
+        Ok(held)
     }
 
     /// What a record of the form holds, or one of 13, 5, 10, 11.
@@ -246,8 +255,8 @@ impl Edition {
         }
         let stated = self.stated(u32::from(record[4]));
         let set = stated.ok_or(Refusal::header(4))?;
-        let right = form.header(set);
-        for field in FIELDS {
+        let right = form.header(set, KEY_NOT_STATED);
+        for field in self.fields() {
             let other_length = field == TOTAL_FIELD && record.len() != form.total(set);
             if record[field.clone()] != right[field.clone()] || other_length {
                 return Err(Refusal::header(field.start));

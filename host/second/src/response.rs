@@ -3,6 +3,7 @@
 use crate::answers::{Refusal, Response};
 use crate::commitment::{require_masks, sums};
 use crate::draw::draw;
+use crate::form::KEY_NOT_STATED;
 use crate::key::{require_proper, require_public_range, require_secret_range, s1, s2};
 use crate::length_rule::length_rule;
 use crate::parameters::{require_lengths, require_vectors, Set, N, THRESHOLDS};
@@ -10,10 +11,12 @@ use crate::ring::{
     centred, column, inner_product, modulo_2q, squared_length, upper_digits, whole, Whole,
 };
 
-/// The response: 1, 2, 3, 4, 5, 15, 7, 6, then 8 or 9 as the walk ends, then 10, 11.
+/// The response: 1, 2, 3, 4, 5, 15, 7, 6, then 8 or 9 as the walk ends, then 10, 11. The key number is
+/// its caller's (02, C-13).
 #[allow(clippy::too_many_arguments)]
 pub fn respond(
     set: u32,
+    key: u32,
     f: &[i8],
     g: &[i8],
     a: &[u16],
@@ -44,6 +47,7 @@ pub fn respond(
             return Response {
                 outcome: Err(refusal),
                 words: 0,
+                key: KEY_NOT_STATED,
             }
         }
     };
@@ -66,6 +70,7 @@ pub fn respond(
     Response {
         outcome,
         words: taken,
+        key: outcome.map_or(KEY_NOT_STATED, |()| key),
     }
 }
 

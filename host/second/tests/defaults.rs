@@ -16,6 +16,7 @@ fn signed(set: Set) -> (Input, Signed) {
     let (last, signature) = (signed.last_try.clone(), signed.signature.clone());
     let input = Input {
         set: set.number(),
+        key: 77,
         f: key.f,
         g: key.g,
         a: key.a,

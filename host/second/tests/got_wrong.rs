@@ -32,6 +32,7 @@ fn given_out(key: &Key, y2: &[i16], list: &[u16]) -> (Vec<i16>, Vec<i8>) {
     let (mut z1, mut z2_dagger) = (vec![0; N], vec![0; N]);
     let response = respond(
         1,
+        0,
         &key.f,
         &key.g,
         &key.a,

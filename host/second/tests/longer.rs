@@ -69,7 +69,7 @@ fn lists_are_not() {
                 [
                     compare(number, &list, &list),
                     rebuild(number, &key.a, &z1, &z2_dagger, &list, &mut rebuilt),
-                    write(number, &z1, &z2_dagger, &list, &mut record),
+                    write(number, 0, &z1, &z2_dagger, &list, &mut record),
                 ]
             };
             assert_eq!(verdicts(set.number()), [Ok(()); 3]);

@@ -1,9 +1,10 @@
-//! 02, C-11: the packed record and the conversions.
+//! 02, C-11: the packed record and the conversions, with the key number (C-13).
 
 use second::form::{bit, turn_bit, Section, HEADER};
 use second::parameters::{LIST_BUFFER, N};
 use second::record::Held;
 use second::testing::boundary::signature_of_sum;
+use second::testing::key_numbers::{self, NUMBERS};
 use second::testing::noise::Noise;
 use second::{
     list_section, pack, packed_bytes, read, read_packed, unpack, write, write_packed, z1_section,
@@ -14,7 +15,8 @@ use second::{
 fn held(set: Set, noise: &mut Noise) -> Held {
     let sum = noise.between(0, set.b2_squared());
     let (z1, z2_dagger) = signature_of_sum(set, sum, noise);
-    Held::new(set, &z1, &z2_dagger, &noise.list(set))
+    let key = key_numbers::any(noise);
+    Held::new(set, key, &z1, &z2_dagger, &noise.list(set))
 }
 
 /// The outcome of a reader, which leaves its buffers alone where it refuses.
@@ -27,7 +29,7 @@ fn read_by(form: Form, record: &[u8]) -> Result<(), Refusal> {
     };
     let reading = reader(record, &mut z1, &mut z2_dagger, &mut list);
     if reading.outcome.is_err() {
-        assert_eq!(reading.set, 0);
+        assert_eq!((reading.set, reading.key), (0, 0));
         assert_eq!((z1, z2_dagger), (vec![77; N], vec![77; N]));
         assert_eq!(list, vec![777; LIST_BUFFER]);
     }
@@ -81,8 +83,8 @@ fn bits_go_low_first() {
     z2_dagger[..3].copy_from_slice(&[-1, 2, -2]);
     z2_dagger[511] = -2;
     let mut record = vec![0xee; 1138];
-    write_packed(1, &z1, &z2_dagger, &list, &mut record).unwrap();
-    assert_eq!(record[..HEADER], Form::Packed.header(Set::I));
+    write_packed(1, 9, &z1, &z2_dagger, &list, &mut record).unwrap();
+    assert_eq!(record[..HEADER], Form::Packed.header(Set::I, 9));
     // 1 in bits 0-12, thirteen ones in 13-25, and -2100 = 6092 - 8192 in 26-38.
     assert_eq!(record[24..30], [0x01, 0xe0, 0xff, 0x33, 0x5f, 0]);
     // 2 in the last thirteen bits, of which the first is bit 3 of byte 854.
@@ -110,16 +112,21 @@ fn spare_bits_are_zero_and_stand_in_the_last_byte() {
         let (z1, z2_dagger) = signature_of_sum(set, sum, &mut noise);
         let list = noise.list(set);
         let mut right = vec![0xff; last + 1];
-        write_packed(set.number(), &z1, &z2_dagger, &list, &mut right).unwrap();
+        write_packed(set.number(), 0, &z1, &z2_dagger, &list, &mut right).unwrap();
         assert!(spare.iter().all(|&place| !bit(&right, place)));
         for place in spare {
             let mut wrong = right.clone();
             turn_bit(&mut wrong, place);
             require_refused(&wrong, Refusal::header(last));
-            // Every field of the header goes before it, the last one and the total among them.
-            wrong[20] = 1;
-            require_refused(&wrong, Refusal::header(20));
-            wrong[20] = 0;
+            // A key number makes no difference to it.
+            for at in 20..HEADER {
+                wrong[at] = 1;
+                require_refused(&wrong, Refusal::header(last));
+            }
+            // Every field of the header goes before it, the total among them.
+            wrong[16] ^= 1;
+            require_refused(&wrong, Refusal::header(16));
+            wrong[16] ^= 1;
             require_refused(&[&wrong[..], &[0]].concat(), Refusal::header(18));
             require_refused(&wrong[..last], Refusal::header(18));
             // It goes before the list.
@@ -164,14 +171,16 @@ fn values_that_the_bits_hold_and_the_limit_cannot() {
 fn there_and_back_it_is_the_same() {
     let mut noise = Noise::new(113);
     for set in Set::ALL {
-        for _ in 0..10 {
-            let held = held(set, &mut noise);
+        for round in 0..10 {
+            let mut held = held(set, &mut noise);
+            held.key = NUMBERS.get(round).copied().unwrap_or(held.key);
             let records = Form::ALL.map(|form| held.record(form));
             for (form, record) in Form::ALL.into_iter().zip(&records) {
                 let other = form.other();
                 let total = other.total(set);
                 let there = converted(form, record, total).unwrap();
                 assert_eq!(there, records[other as usize]);
+                assert_eq!(there[20..HEADER], held.key.to_le_bytes());
                 let back = converted(other, &there, record.len()).unwrap();
                 assert_eq!(&back, record);
                 let longer = converted(form, record, total + 9).unwrap();
@@ -223,8 +232,9 @@ fn the_conversions_agree_with_the_writers() {
             vec![0; Form::Plain.total(set)],
             vec![0; Form::Packed.total(set)],
         );
-        write(set.number(), &z1, &z2_dagger, &list, &mut plain).unwrap();
-        write_packed(set.number(), &z1, &z2_dagger, &list, &mut packed).unwrap();
+        let (number, key) = (set.number(), 0x0a0b_0c0d);
+        write(number, key, &z1, &z2_dagger, &list, &mut plain).unwrap();
+        write_packed(number, key, &z1, &z2_dagger, &list, &mut packed).unwrap();
         assert_eq!(
             converted(Form::Plain, &plain, packed.len()),
             Ok(packed.clone())

@@ -96,6 +96,7 @@ fn a_try_is_one_that_the_calls_give_out() {
         let (mut z1, mut z2_dagger) = (vec![0; N], vec![0; N]);
         let response = respond(
             number,
+            0,
             &f,
             &g,
             &a,
@@ -153,26 +154,29 @@ fn a_record_of_either_form_is_read_and_a_new_one_refused_by_the_older_reader() {
     };
     for set in Set::ALL {
         let (number, list) = (set.number(), (0..set.kappa() as u16).collect::<Vec<_>>());
-        let written = |form: Form| {
+        let written = |form: Form, key: u32| {
             let mut record = vec![0; form.total(set)];
-            write_in(form, number, &[0; N], &[0; N], &list, &mut record).unwrap();
+            write_in(form, number, key, &[0; N], &[0; N], &list, &mut record).unwrap();
             std::fs::write(&path, &record).unwrap();
         };
         let done = format!("number 0, place 0, set {number}");
-        written(Form::Packed);
-        answers("read", 0, &done);
-        answers("read-older", 1, "number 13, place 0, set 0");
-        written(Form::Plain);
-        answers("read", 0, &done);
-        if set.like() == set {
-            answers("read-older", 0, &done);
-        } else {
-            answers("read-older", 1, "number 13, place 4, set 0");
+        for key in [0, 67_305_985] {
+            let with_key = format!("{done}, key number {key}");
+            written(Form::Packed, key);
+            answers("read", 0, &with_key);
+            answers("read-older", 1, "number 13, place 0, set 0");
+            written(Form::Plain, key);
+            answers("read", 0, &with_key);
+            match (set.like() == set, key) {
+                (true, 0) => answers("read-older", 0, &done),
+                (true, _) => answers("read-older", 1, "number 13, place 20, set 0"),
+                (false, _) => answers("read-older", 1, "number 13, place 4, set 0"),
+            }
         }
     }
     for letters in [b"BLB", b"BLP"] {
         std::fs::write(&path, letters).unwrap();
-        answers("read", 1, "number 13, place 3, set 0");
+        answers("read", 1, "number 13, place 3, set 0, key number 0");
     }
 }
 

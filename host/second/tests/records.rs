@@ -1,13 +1,15 @@
-//! "The record", plain and packed: round trips both ways, the header's fields, the section calls.
+//! "The record", plain and packed: round trips both ways, the header's fields, the key number, the
+//! section calls.
 
-use second::form::HEADER;
+use second::form::{FIELDS, HEADER};
 use second::parameters::{LIST_BUFFER, N};
 use second::record::write_in;
 use second::testing::boundary::{largest_z2_dagger, signature_of_sum};
+use second::testing::key_numbers::{self, NUMBERS};
 use second::testing::noise::Noise;
 use second::{list_section, z1_section, z2_section, Edition, Form, Reading, Refusal, Set};
 
-/// A proper signature of the set: z1, z2 dagger and list.
+/// A proper signature of the set: z1, z2 dagger and list. Its key number is drawn apart.
 fn signature(set: Set, noise: &mut Noise) -> (Vec<i16>, Vec<i8>, Vec<u16>) {
     let sum = noise.between(0, set.b2_squared());
     let (z1, z2_dagger) = signature_of_sum(set, sum, noise);
@@ -16,8 +18,9 @@ fn signature(set: Set, noise: &mut Noise) -> (Vec<i16>, Vec<i8>, Vec<u16>) {
 
 fn record(form: Form, set: Set, noise: &mut Noise) -> Vec<u8> {
     let (z1, z2_dagger, list) = signature(set, noise);
+    let key = key_numbers::any(noise);
     let mut record = vec![0; form.total(set)];
-    write_in(form, set.number(), &z1, &z2_dagger, &list, &mut record).unwrap();
+    write_in(form, set.number(), key, &z1, &z2_dagger, &list, &mut record).unwrap();
     record
 }
 
@@ -32,7 +35,7 @@ fn read(form: Form, record: &[u8]) -> (Reading, Vec<i16>, Vec<i8>, Vec<u16>) {
 fn verdict(form: Form, record: &[u8]) -> Result<(), Refusal> {
     let (reading, z1, z2_dagger, list) = read(form, record);
     if reading.outcome.is_err() {
-        assert_eq!(reading.set, 0);
+        assert_eq!((reading.set, reading.key), (0, 0));
         assert_eq!((z1, z2_dagger), (vec![77; N], vec![77; N]));
         assert_eq!(list, vec![777; LIST_BUFFER]);
     }
@@ -49,18 +52,21 @@ fn forms() -> impl Iterator<Item = (Form, Set)> {
 fn what_is_written_reads_back() {
     let mut noise = Noise::new(41);
     for (form, set) in forms() {
-        for _ in 0..20 {
+        for round in 0..20 {
             let (z1, z2_dagger, list) = signature(set, &mut noise);
-            let total = form.total(set);
+            let any = key_numbers::any(&mut noise);
+            let key = NUMBERS.get(round).copied().unwrap_or(any);
+            let (number, total) = (set.number(), form.total(set));
             let mut record = vec![0xee; total + 3];
-            let outcome = write_in(form, set.number(), &z1, &z2_dagger, &list, &mut record);
+            let outcome = write_in(form, number, key, &z1, &z2_dagger, &list, &mut record);
             assert_eq!(outcome, Ok(()));
             assert_eq!(record[total..], [0xee; 3], "a longer output keeps its tail");
 
             let (reading, read_z1, read_z2, read_list) = read(form, &record[..total]);
             let expected = Reading {
                 outcome: Ok(()),
-                set: set.number(),
+                set: number,
+                key,
             };
             assert_eq!(reading, expected);
             assert_eq!((read_z1, read_z2), (z1, z2_dagger));
@@ -88,8 +94,8 @@ fn what_reads_is_what_the_writer_makes_of_it() {
                 reads += 1;
                 let kappa = Set::asked(reading.set).unwrap().kappa();
                 let mut again = vec![0; record.len()];
-                let list = &list[..kappa];
-                let outcome = write_in(form, reading.set, &z1, &z2_dagger, list, &mut again);
+                let (Reading { set, key, .. }, list) = (reading, &list[..kappa]);
+                let outcome = write_in(form, set, key, &z1, &z2_dagger, list, &mut again);
                 assert_eq!(outcome, Ok(()));
                 assert_eq!(again, record);
             }
@@ -105,7 +111,7 @@ fn set_zero_is_written_as_set_four() {
         let (z1, z2_dagger, list) = signature(Set::IV, &mut noise);
         let written = |number: u32| {
             let mut record = vec![0; form.total(Set::IV)];
-            write_in(form, number, &z1, &z2_dagger, &list, &mut record).unwrap();
+            write_in(form, number, 5, &z1, &z2_dagger, &list, &mut record).unwrap();
             record
         };
         let mut zero = written(0);
@@ -122,19 +128,57 @@ fn the_header_byte_by_byte() {
         b'B', b'L', b'B', b'1', 3, 0, 0, 2, 24, 0, 0, 2, 0x18, 0x04, 30, 0, 0x18, 0x06, 0x54, 0x06,
         0, 0, 0, 0,
     ];
-    assert_eq!(Form::Plain.header(Set::III), plain);
+    assert_eq!(Form::Plain.header(Set::III, 0), plain);
     let packed = [
         b'B', b'L', b'P', b'1', 8, 0, 0, 2, 24, 0, 0, 2, 0x58, 0x03, 113, 0, 0x58, 0x04, 0xd8,
-        0x04, 0, 0, 0, 0,
+        0x04, 0x67, 0x45, 0x23, 0x01,
     ];
-    assert_eq!(Form::Packed.header(Set::VIII), packed);
+    assert_eq!(Form::Packed.header(Set::VIII, 0x0123_4567), packed);
+}
+
+/// 02, C-13: bytes 20-23, low byte first; no byte of them is refused, and none counts for anything else.
+#[test]
+fn the_key_number_is_bytes_20_to_23() {
+    let mut noise = Noise::new(50);
+    for (form, set) in forms() {
+        let mut record = record(form, set, &mut noise);
+        let (_, z1, z2_dagger, list) = read(form, &record);
+        for (bytes, key) in [
+            ([0, 0, 0, 0], 0),
+            ([7, 0, 0, 0], 7),
+            ([255, 0, 0, 0], 255),
+            ([0, 1, 0, 0], 256),
+            ([0, 0, 1, 0], 65_536),
+            ([0, 0, 0, 1], 16_777_216),
+            ([0, 0, 0, 128], 2_147_483_648),
+            ([1, 2, 3, 4], 67_305_985),
+            ([255; 4], 4_294_967_295),
+        ] {
+            record[20..24].copy_from_slice(&bytes);
+            let reading = Reading {
+                outcome: Ok(()),
+                set: set.number(),
+                key,
+            };
+            let wanted = (reading, z1.clone(), z2_dagger.clone(), list.clone());
+            assert_eq!(read(form, &record), wanted);
+            let mut written = vec![0; record.len()];
+            let places = &list[..set.kappa()];
+            let number = set.number();
+            write_in(form, number, key, &z1, &z2_dagger, places, &mut written).unwrap();
+            assert_eq!(written, record);
+        }
+    }
 }
 
 #[test]
 fn a_wrong_byte_is_refused_at_the_first_byte_of_its_field() {
+    // The key number is never wrong.
     let starts = [
-        0, 0, 0, 0, 4, 5, 6, 6, 8, 8, 10, 10, 12, 12, 14, 14, 16, 16, 18, 18, 20, 20, 20, 20,
+        0, 0, 0, 0, 4, 5, 6, 6, 8, 8, 10, 10, 12, 12, 14, 14, 16, 16, 18, 18,
     ];
+    assert_eq!(FIELDS[10], 20..24);
+    assert_eq!(Edition::THIS.fields().last(), Some(18..20));
     let mut noise = Noise::new(44);
     for (form, set) in forms() {
         let right = record(form, set, &mut noise);
@@ -144,7 +188,8 @@ fn a_wrong_byte_is_refused_at_the_first_byte_of_its_field() {
                 wrong[at] ^= 1 << bit;
                 let refused = Err(Refusal::header(start));
                 assert_eq!(verdict(form, &wrong), refused, "byte {at}");
-                // The first wrong field counts.
+                // The first wrong field counts, whatever the key number.
+                wrong[19] ^= 1;
                 wrong[23] ^= 1;
                 assert_eq!(verdict(form, &wrong), refused, "byte {at}");
             }
@@ -182,7 +227,7 @@ fn the_set_decides_count_and_limits() {
             let list: Vec<u16> = (0..set.kappa() as u16).collect();
             let (mut z1, mut record) = (vec![0; N], vec![0; form.total(set)]);
             z1[9] = 1564;
-            write_in(form, set.number(), &z1, &[0; N], &list, &mut record).unwrap();
+            write_in(form, set.number(), 0, &z1, &[0; N], &list, &mut record).unwrap();
             assert_eq!(verdict(form, &record), Ok(()));
             record[4] = other;
             assert_eq!(verdict(form, &record), Err(Refusal::entry(9)));
@@ -222,12 +267,20 @@ fn a_section_call_tests_the_header_only() {
     assert_eq!(verdict(Form::Plain, &record), Err(Refusal::LIST));
     assert_eq!(z1_section(&record, &mut number, &mut place).len(), 1024);
     assert_eq!((number, place), (0, 0));
-    record[20] = 1;
     for section in [z1_section, z2_section, list_section] {
-        (number, place) = (99, 99);
+        for at in 20..HEADER {
+            record[20..HEADER].fill(0);
+            record[at] = 0x81;
+            (number, place) = (99, 99);
+            let part = section(&record, &mut number, &mut place);
+            assert_eq!((number, place), (0, 0));
+            assert!(!part.is_empty());
+        }
+        record[18] ^= 1;
         let part = section(&record, &mut number, &mut place);
-        assert_eq!((number, place), (13, 20));
+        assert_eq!((number, place), (13, 18));
         assert_eq!((part.as_ptr(), part.len()), (record.as_ptr(), 0));
+        record[18] ^= 1;
         let part = section(&record[..5], &mut number, &mut place);
         assert_eq!((number, place), (13, 5));
         assert_eq!((part.as_ptr(), part.len()), (record.as_ptr(), 0));
@@ -243,7 +296,8 @@ fn the_sum_at_and_above_b2_squared() {
             let (z1, z2_dagger) = signature_of_sum(set, set.b2_squared() + excess, &mut noise);
             let filled = vec![0xee; form.total(set)];
             let mut record = filled.clone();
-            let written = write_in(form, set.number(), &z1, &z2_dagger, &list, &mut record);
+            let number = set.number();
+            let written = write_in(form, number, 9, &z1, &z2_dagger, &list, &mut record);
             assert_eq!(written, outcome);
             assert_eq!(outcome.is_err(), record == filled);
         }
@@ -257,7 +311,7 @@ fn a_sum_past_32_bits_is_refused() {
     let limit = largest_z2_dagger(Set::I) as i8;
     for form in Form::ALL {
         let mut record = vec![0; form.total(Set::I)];
-        let outcome = write_in(form, 1, &[2100; N], &[limit; N], &list, &mut record);
+        let outcome = write_in(form, 1, 0, &[2100; N], &[limit; N], &list, &mut record);
         assert_eq!(outcome, Err(Refusal::SUM));
     }
 }

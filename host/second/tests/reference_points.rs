@@ -156,6 +156,7 @@ fn the_thin_key_is_refused() {
         let (mut z1, mut z2_dagger) = (vec![77; N], vec![77; N]);
         let response = respond(
             set,
+            11,
             &key.f,
             &key.g,
             &key.a,
@@ -171,6 +172,7 @@ fn the_thin_key_is_refused() {
         let refused = Response {
             outcome: Err(refusal),
             words: 0,
+            key: 0,
         };
         assert_eq!(response, refused);
         assert_eq!((z1, z2_dagger), (vec![77; N], vec![77; N]));
@@ -245,7 +247,8 @@ fn entries_at_and_beyond_largest() {
         let (mut rebuilt, mut record) = (vec![0; N], vec![0; Form::Plain.longest()]);
         let rebuilding = rebuild(set.number(), &[0; N], &z1, &z2_dagger, &list, &mut rebuilt);
         for form in Form::ALL {
-            let writing = write_in(form, set.number(), &z1, &z2_dagger, &list, &mut record);
+            let number = set.number();
+            let writing = write_in(form, number, 0, &z1, &z2_dagger, &list, &mut record);
             assert_eq!(rebuilding, writing);
         }
         rebuilding

@@ -1,5 +1,5 @@
-//! "Numbers that come back": each call's order, with all later faults present at once, and
-//! output buffers that keep their contents.
+//! "Numbers that come back": each call's order, with all later faults present at once, output buffers
+//! that keep their contents, and no key number on a refusal.
 
 use second::form::{turn_bit, Section};
 use second::key::{require_key_length, require_relation};
@@ -7,6 +7,7 @@ use second::parameters::N;
 use second::record::{write_in, Held};
 use second::testing::calls::{run, Answered, Call, Input, OutputLengths, Outputs};
 use second::testing::edges::{past_k, Edge};
+use second::testing::key_numbers::NUMBERS;
 use second::testing::keys::{self, Key};
 use second::testing::noise::Noise;
 use second::testing::sheet::sign;
@@ -15,8 +16,20 @@ use second::{commitment, compare, Form, Refusal, Set};
 /// Refusals of a call, each with what brings it about.
 type Faults<'a> = &'a [(Refusal, &'a dyn Fn(&mut Input))];
 
-/// Runs a call on filled buffers, and sees that a refusal leaves them alone.
+/// The key number of every right input: it is lent, and stands in the records.
+const KEY: u32 = 0xd1c2_b3a4;
+
+/// Runs a call on filled buffers, and sees that a refusal leaves them alone and answers no key number.
 fn answer(call: Call, input: &Input) -> Answered {
+    let answered = answer_of(call, input);
+    if answered.number == 0 && call.answers_key() {
+        assert_eq!(answered.key, KEY);
+    }
+    answered
+}
+
+/// The same whatever the key number.
+fn answer_of(call: Call, input: &Input) -> Answered {
     let lengths = input.lengths;
     let mut rounded = vec![0xabcd; lengths.rounded];
     let mut rests = vec![-79; lengths.rests];
@@ -40,6 +53,7 @@ fn answer(call: Call, input: &Input) -> Answered {
         assert_eq!(z2_dagger, vec![-78; lengths.z2_dagger]);
         assert_eq!(list, vec![0xabce; lengths.list]);
         assert_eq!(record, vec![0xab; lengths.record]);
+        assert_eq!(answered.key, 0);
     }
     answered
 }
@@ -82,11 +96,13 @@ fn right_input(set: Set, seed: u64) -> Input {
     let (z1, z2_dagger, list) = (signature.z1, signature.z2_dagger, signature.list);
     let [record, packed] = Form::ALL.map(|form| {
         let mut record = vec![0; form.total(set)];
-        write_in(form, set.number(), &z1, &z2_dagger, &list, &mut record).unwrap();
+        let number = set.number();
+        write_in(form, number, KEY, &z1, &z2_dagger, &list, &mut record).unwrap();
         record
     });
     Input {
         set: set.number(),
+        key: KEY,
         f: key.f,
         g: key.g,
         a: key.a,
@@ -464,7 +480,6 @@ fn order_of_readers_and_conversions() {
                     input.record_in(form)[4] = Set::ABOVE as u8
                 }),
                 (Refusal::header(18), &|input| input.record_in(form).push(0)),
-                (Refusal::header(20), &|input| input.record_in(form)[23] = 1),
             ];
             let spare: Faults = &[(Refusal::header(last), &|input| {
                 turn_bit(input.record_in(form), 8 * last + 7)
@@ -496,6 +511,32 @@ fn order_of_readers_and_conversions() {
                 if call.writes().is_some() { room } else { &[] },
             ];
             require_order(call, &right_input(set, 62), &order.concat());
+        }
+    }
+}
+
+/// 02, C-13: no number is refused for being this one, and no other answer depends on it.
+#[test]
+fn any_key_number_is_taken() {
+    for set in [Set::I, Set::VIII] {
+        let right = right_input(set, 68);
+        for call in Call::ALL {
+            let outcome = |key: u32| {
+                let mut input = right.clone();
+                input.key = key;
+                for form in Form::ALL {
+                    input.record_in(form)[20..24].copy_from_slice(&key.to_le_bytes());
+                }
+                let answered = answer_of(call, &input);
+                let wanted = if call.answers_key() { key } else { 0 };
+                assert_eq!(answered.key, wanted, "{}, {key}", call.name());
+                Answered { key: 0, ..answered }
+            };
+            let not_stated = outcome(0);
+            assert_eq!((not_stated.number, not_stated.place), (0, 0));
+            for key in NUMBERS {
+                assert_eq!(outcome(key), not_stated, "{}, {key}", call.name());
+            }
         }
     }
 }

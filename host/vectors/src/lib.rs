@@ -5,7 +5,7 @@
 //! All numbers have the low byte first; signed ones are two's complement.
 //!
 //! ```text
-//! bytes 0-7    the letters BLVECT04
+//! bytes 0-7    the letters BLVECT05
 //! bytes 8-11   the number of entries
 //! bytes 12-15  the number of entries that are calls
 //! then the entries, one after the other, to the end of the file
@@ -52,7 +52,7 @@
 //! (record), 11 commitment with rests (a, y1, y2), 12 and 13 rebuild and comparison with default one
 //! (as 4 and 5), 14 packed writer (as 6), 15 packed reader (as 7), 16 packing and 17 unpacking
 //! (record). A call takes its inputs from the slots, at their lengths; the record may be of either
-//! form. Its elements are 28 bytes (width 1):
+//! form. Its elements are 36 bytes (width 1):
 //!
 //! ```text
 //! 0-3    set asked for (0 with 16 and 17, which take none)
@@ -70,11 +70,21 @@
 //! 24-25  length of the rests output (commitment with rests)
 //! 26     sign bit
 //! 27     fill
+//! 28-31  key number that is lent (response, writers, else 0)
+//! 32-35  wanted key number (response, readers, else 0; 0 where the wanted number is not 0)
 //! ```
 //!
 //! Before a call every entry of its output arrays is the number `fill` (1 to 127). After it, where
 //! the wanted number is 0, each output array of the call is exactly its wanted slot, at that slot's
 //! length, which is the length lent. Where it is not 0, every entry is still `fill`.
+//!
+//! # The file of before the key number
+//!
+//! It has the letters BLVECT04 and calls of 28 bytes, those up to the fill; key numbers lent and wanted
+//! are 0. Where it wants 13 at place 20, for a record with another byte than 0 among bytes 20-23, that is
+//! no longer given (02, C-13): wanted is all that the call leaves behind where these four bytes are zero,
+//! but for the key number that a reader answers, which they are, and for bytes 20-23 of a record that is
+//! written, which are these.
 
 pub mod cases;
 pub mod recorder;
@@ -82,7 +92,9 @@ pub mod replay;
 pub mod slots;
 
 /// The letters that a file of vectors starts with.
-pub const LETTERS: &[u8; 8] = b"BLVECT04";
+pub const LETTERS: &[u8; 8] = b"BLVECT05";
+/// Those of a file of before the key number.
+pub const LETTERS_BEFORE_KEYS: &[u8; 8] = b"BLVECT04";
 
 pub use cases::vectors;
-pub use replay::{replay, Fault};
+pub use replay::{replay, Fault, Replayed};

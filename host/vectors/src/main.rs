@@ -10,7 +10,8 @@ use vectors::Fault;
 
 const USAGE: &str = "\
 bursztok-vectors FILE [SEED]      writes the file of vectors that SEED makes (default 1)
-bursztok-vectors --replay FILE    replays a file against the second program
+bursztok-vectors --replay FILE    replays a file against the second program, also one of before the
+                                  key number; its answers of 13 at 20 are counted apart
 
 The file's format is in the comment of host/vectors/src/lib.rs.
 Exit status: 0 done, 1 the replay found a difference, 2 bad usage or a bad file.";
@@ -60,11 +61,14 @@ fn replay(path: &str) -> ExitCode {
         Err(error) => return bad(&format!("{path}: {error}")),
     };
     match vectors::replay(&file) {
-        Ok(counts) => {
-            for ((call, number), count) in &counts {
+        Ok(replayed) => {
+            for ((call, number), count) in &replayed.counts {
                 say!("call {call:>2}, number {number:>2}: {count}");
             }
-            say!("{} passed, 0 failed", counts.values().sum::<u32>());
+            if let Some(count) = replayed.taken_back {
+                say!("13 at 20, no longer given: {count}");
+            }
+            say!("{} passed, 0 failed", replayed.calls());
             ExitCode::SUCCESS
         }
         Err(Fault::Differs(what)) => {

@@ -2,7 +2,10 @@
 
 use crate::slots::{bytes_of, Asked, Element, Slots};
 use crate::LETTERS;
+use second::form::KEY_NOT_STATED;
 use second::testing::calls::{Answered, Call};
+use second::testing::key_numbers;
+use second::testing::noise::Noise;
 use std::ops::Range;
 
 pub const LOAD: u8 = 1;
@@ -12,16 +15,29 @@ pub const CALL: u8 = 3;
 /// The bytes of an entry's head.
 const HEAD: usize = 8;
 
-#[derive(Default)]
 pub struct Recorder {
     slots: Slots,
     entries: Vec<u8>,
     count: u32,
     calls: u32,
     fill: u8,
+    /// What the key numbers are drawn from.
+    numbers: Noise,
 }
 
 impl Recorder {
+    /// A recorder whose key numbers are drawn from this seed.
+    pub fn new(seed: u64) -> Recorder {
+        Recorder {
+            slots: Slots::default(),
+            entries: Vec::new(),
+            count: 0,
+            calls: 0,
+            fill: 0,
+            numbers: Noise::part(seed, 0),
+        }
+    }
+
     /// Puts numbers into a slot, and its length to theirs.
     pub fn load<T: Element>(&mut self, slot: usize, numbers: &[T]) {
         self.load_bytes(slot, &bytes_of(numbers));
@@ -72,10 +88,17 @@ impl Recorder {
         numbers: &[T],
         within: impl FnOnce(&mut Recorder),
     ) {
-        let old = self.slots.get(slot).part(at, numbers.len()).to_vec();
-        self.patch(slot, at, &bytes_of(numbers));
+        let old = self.exchange(slot, at, &bytes_of(numbers));
         within(self);
         self.patch(slot, at, &old);
+    }
+
+    /// Puts a run of bytes, whole entries, into a slot. Gives those that were there.
+    pub fn exchange(&mut self, slot: usize, at: usize, bytes: &[u8]) -> Vec<u8> {
+        let held = self.slots.get(slot);
+        let old = held.part(at, bytes.len() / held.width()).to_vec();
+        self.patch(slot, at, bytes);
+        old
     }
 
     fn patch(&mut self, slot: usize, at: usize, bytes: &[u8]) {
@@ -91,8 +114,18 @@ impl Recorder {
         self.resize(slot, old);
     }
 
-    /// Records a call with the second program's answer and output.
+    /// Records a call with the second program's answer and output, and with another key number each
+    /// time where it takes one.
     pub fn call(&mut self, call: Call, asked: Asked) -> Answered {
+        let key = match call.takes_key() {
+            true => key_numbers::any(&mut self.numbers),
+            false => KEY_NOT_STATED,
+        };
+        self.call_with_key(call, Asked { key, ..asked })
+    }
+
+    /// The same with the key number that is asked with.
+    pub fn call_with_key(&mut self, call: Call, asked: Asked) -> Answered {
         // Another fill for every call.
         self.fill = self.fill % 127 + 1;
         let asked = Asked {
@@ -146,7 +179,7 @@ fn differing_runs(held: &[u8], wanted: &[u8], width: usize) -> Vec<Range<usize>>
     runs
 }
 
-/// The 28 bytes of a call.
+/// The 36 bytes of a call.
 fn encoded(asked: &Asked, answered: &Answered) -> Vec<u8> {
     let mut bytes = asked.set.to_le_bytes().to_vec();
     bytes.extend([answered.number as u8, answered.set as u8]);
@@ -167,5 +200,7 @@ fn encoded(asked: &Asked, answered: &Answered) -> Vec<u8> {
         bytes.extend(short.to_le_bytes());
     }
     bytes.extend([u8::from(asked.sign), asked.fill]);
+    bytes.extend(asked.key.to_le_bytes());
+    bytes.extend(answered.key.to_le_bytes());
     bytes
 }

@@ -134,6 +134,8 @@ const ROOMS: [(usize, usize); 18] = [
 #[derive(Clone, Copy, Debug)]
 pub struct Asked {
     pub set: u32,
+    /// The key number.
+    pub key: u32,
     pub sign: bool,
     pub lengths: OutputLengths,
     pub fill: u8,
@@ -142,6 +144,7 @@ pub struct Asked {
 /// An output array after a call: the slot that it is held to, and its bytes.
 pub type Output = (usize, Vec<u8>);
 
+#[derive(Clone)]
 pub struct Slots(Vec<Slot>);
 
 impl Default for Slots {
@@ -205,6 +208,7 @@ impl Slots {
     fn input(&self, asked: &Asked) -> Input {
         Input {
             set: asked.set,
+            key: asked.key,
             f: self.get(F).numbers(),
             g: self.get(G).numbers(),
             a: self.get(A).numbers(),

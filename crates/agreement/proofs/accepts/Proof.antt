@@ -22,7 +22,7 @@ is-done-requires c κs = search needs
 
 returns : tie.Need-returns
 unfolding accepted
-returns c = not-read _ _ _ _ _ _ _ _ _ (c .before .before .before .before .before .read .ensures) (c .before .is-done .ensures) (c .if1 .taken)
+returns c = not-read _ _ _ _ _ _ _ _ _ _ (c .before .before .before .before .before .read .ensures) (c .before .is-done .ensures) (c .if1 .taken)
 
 asked-requires : tie.Need-asked-requires
 asked-requires c κs = search needs
@@ -56,7 +56,7 @@ unfolding accepted
 returns-2 c =
     let k = c .before .before in
     let e = k .before in
-    no-set _ _ _ _ _ _ _ _ _ (e .before .before .before .before .before .read .ensures) (e .before .is-done .ensures) (e .if1 .left) _ (k .asked .ensures)
+    no-set _ _ _ _ _ _ _ _ _ _ (e .before .before .before .before .before .read .ensures) (e .before .is-done .ensures) (e .if1 .left) _ (k .asked .ensures)
     (c .enum-told .given .1)
 
 returns-3 : tie.Need-returns-3
@@ -66,7 +66,7 @@ returns-3 c =
     let m = n .before .before in
     let k = m .before .before in
     let e = k .before in
-    read-as _ _ _ _ _ _ _ _ _ (e .before .before .before .before .before .read .ensures) (e .before .is-done .ensures) (e .if1 .left) _ (k .asked .ensures)
+    read-as _ _ _ _ _ _ _ _ _ _ (e .before .before .before .before .before .read .ensures) (e .before .is-done .ensures) (e .if1 .left) _ (k .asked .ensures)
     (m .s .given .0 .0) (search needs) _ (n .kappa .ensures) _ (c .rebuilds .ensures)
 
 pub accepts-spec : {M : Type 1} → statement M

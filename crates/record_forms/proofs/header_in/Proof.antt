@@ -11,9 +11,9 @@ use borrow.Author.Needs.{needs}
 use Rattle.record_forms.proofs.header_in.Statement.{statement}
 use Rattle.record_forms.proofs.header_in.Tie as tie
 
--- what the fields say, at the header that is known
-fields-at : (r : Header) (form : Form) (s : Set) (header header′ rec : List ℕ) → r ≡ fieldsAfter form s header rec → header ≡ header′ → r ≡ fieldsAfter form s header′ rec
-fields-at r form s header header′ rec e f = cc
+-- what the fields say, beside those that are known
+fields-at : (r : Header) (form : Form) (s : Set) (fields fields′ rec : List ℕ) → r ≡ fieldsAfter form s fields rec → fields ≡ fields′ → r ≡ fieldsAfter form s fields′ rec
+fields-at r form s fields fields′ rec e f = cc
 
 cast-t7 : tie.Need-cast-t7
 cast-t7 c = search needs
@@ -44,8 +44,8 @@ enum-told c = search needs
 enum-known-s : tie.Need-enum-known-s
 enum-known-s c = search needs
 
-header-of-requires : tie.Need-header-of-requires
-header-of-requires c κs = search needs
+fields-of-requires : tie.Need-fields-of-requires
+fields-of-requires c κs = search needs
 
 slice-aggregate-fields-after : tie.Need-slice-aggregate-fields-after
 slice-aggregate-fields-after c = search needs
@@ -74,7 +74,7 @@ header-in-spec =
     named-requires
     enum-told
     enum-known-s
-    header-of-requires
+    fields-of-requires
     slice-aggregate-fields-after
     fields-after-requires
     returns-3

@@ -32,19 +32,12 @@ returns-4 : tie.Need-returns-4
 unfolding setFields
 returns-4 c = search calls depth 9
 
-agrees-requires-4 : tie.Need-agrees-requires-4
-agrees-requires-4 c κs = search needs
+spare-bits-requires : tie.Need-spare-bits-requires
+spare-bits-requires c κs = search needs
 
 returns-5 : tie.Need-returns-5
 unfolding setFields
 returns-5 c = search calls depth 9
-
-spare-bits-requires : tie.Need-spare-bits-requires
-spare-bits-requires c κs = search needs
-
-returns-6 : tie.Need-returns-6
-unfolding setFields
-returns-6 c = search calls depth 9
 
 pub set-fields-spec : {M : Type 1} → statement M
 set-fields-spec =
@@ -58,7 +51,5 @@ set-fields-spec =
     returns-3
     total-requires
     returns-4
-    agrees-requires-4
-    returns-5
     spare-bits-requires
-    returns-6)
+    returns-5)

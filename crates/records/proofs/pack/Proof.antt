@@ -80,64 +80,58 @@ list-offset-requires c κs = search needs
 total-requires : tie.Need-total-requires
 total-requires c κs = search needs
 
-header-of-requires : tie.Need-header-of-requires
-header-of-requires c κs = search needs
+sub-put-header : tie.Need-sub-put-header
+sub-put-header c = search needs
 
-slice-aggregate-copy : tie.Need-slice-aggregate-copy
-slice-aggregate-copy c = search needs
+part-put-header-start : tie.Need-part-put-header-start
+part-put-header-start c = search needs
 
-sub-copy : tie.Need-sub-copy
-sub-copy c = search needs
-
-part-copy-start : tie.Need-part-copy-start
-part-copy-start c = search needs
-
-part-copy-end : tie.Need-part-copy-end
-part-copy-end c =
-    let t = c .before .before in
+part-put-header-end : tie.Need-part-put-header-end
+part-put-header-end c =
+    let t = c in
     let s = t .before .before .before .before .before in
     header-within (s .args .form) (s .args .s) _ _ _ (t .before .before .z2-offset .ensures) (t .before .list-offset .ensures) (t .total .ensures) (s .args .out .now) (s .args .out .now) (s .pre .3)
 
-copy-requires : tie.Need-copy-requires
-copy-requires c κs = search needs
+put-header-requires : tie.Need-put-header-requires
+put-header-requires c κs = search needs
 
 sub-pack-z1 : tie.Need-sub-pack-z1
 sub-pack-z1 c =
-    let t = c .before .before .before .before .before .before in
+    let t = c .before .before .before .before in
     let s = t .before .before .before .before .before in
     z1-first (s .args .form) (s .args .s) _ _ _ (t .before .before .z2-offset .ensures) (t .before .list-offset .ensures) (t .total .ensures)
 
 part-pack-z1-start : tie.Need-part-pack-z1-start
 part-pack-z1-start c =
-    let t = c .before .before .before .before .before .before in
+    let t = c .before .before .before .before in
     let s = t .before .before .before .before .before in
     z1-first (s .args .form) (s .args .s) _ _ _ (t .before .before .z2-offset .ensures) (t .before .list-offset .ensures) (t .total .ensures)
 
 part-pack-z1-end : tie.Need-part-pack-z1-end
 part-pack-z1-end c =
     let o1 = c .before in
-    let t = o1 .before .before .before .before .before in
+    let t = o1 .before .before .before in
     let s = t .before .before .before .before .before in
-    within-one (s .args .form) (s .args .s) _ _ _ (t .before .before .z2-offset .ensures) (t .before .list-offset .ensures) (t .total .ensures) (s .args .out .now) (o1 .before .copy .last .1 .0) (s .pre .3) (o1 .out .given .1)
+    within-one (s .args .form) (s .args .s) _ _ _ (t .before .before .z2-offset .ensures) (t .before .list-offset .ensures) (t .total .ensures) (s .args .out .now) (o1 .before .put-header .last .1 .1 .1 .0) (s .pre .3) (o1 .out .given .1)
 
 pack-z1-requires : tie.Need-pack-z1-requires
 pack-z1-requires c κs =
-    let t = c .before .before .before .before .before .before .before in
+    let t = c .before .before .before .before .before in
     let s = t .before .before .before .before .before in (
       s .pre .0,
-      z1-small (s .args .form) (signature (s .args .s) (s .args .z1 .now) (s .args .z2 .now) (s .args .list .now)) (s .pre .2),
+      z1-small (s .args .form) (signature (s .args .s) (s .args .key) (s .args .z1 .now) (s .args .z2 .now) (s .args .list .now)) (s .pre .2),
       z1-room (s .args .form) (s .args .s) _ _ _ (t .before .before .z2-offset .ensures) (t .before .list-offset .ensures) (t .total .ensures) _ (c .pack-z1-arg .given .2),
     )
 
 sub-pack-z2 : tie.Need-sub-pack-z2
 sub-pack-z2 c =
-    let t = c .before .before .before .before .before .before .before .before .before .before in
+    let t = c .before .before .before .before .before .before .before .before in
     let s = t .before .before .before .before .before in
     z2-first (s .args .form) (s .args .s) _ _ _ (t .before .before .z2-offset .ensures) (t .before .list-offset .ensures) (t .total .ensures)
 
 part-pack-z2-start : tie.Need-part-pack-z2-start
 part-pack-z2-start c =
-    let t = c .before .before .before .before .before .before .before .before .before .before in
+    let t = c .before .before .before .before .before .before .before .before in
     let s = t .before .before .before .before .before in
     z2-first (s .args .form) (s .args .s) _ _ _ (t .before .before .z2-offset .ensures) (t .before .list-offset .ensures) (t .total .ensures)
 
@@ -145,28 +139,28 @@ part-pack-z2-end : tie.Need-part-pack-z2-end
 part-pack-z2-end c =
     let o2 = c .before in
     let o1 = o2 .before .before .before .before in
-    let t = o1 .before .before .before .before .before in
+    let t = o1 .before .before .before in
     let s = t .before .before .before .before .before in
-    within-two (s .args .form) (s .args .s) _ _ _ (t .before .before .z2-offset .ensures) (t .before .list-offset .ensures) (t .total .ensures) (s .args .out .now) (o1 .before .copy .last .1 .0) (s .pre .3) (o1 .out .given .1) (o2 .before .pack-z1 .last .1 .1 .0) (o2 .out2 .given .1)
+    within-two (s .args .form) (s .args .s) _ _ _ (t .before .before .z2-offset .ensures) (t .before .list-offset .ensures) (t .total .ensures) (s .args .out .now) (o1 .before .put-header .last .1 .1 .1 .0) (s .pre .3) (o1 .out .given .1) (o2 .before .pack-z1 .last .1 .1 .0) (o2 .out2 .given .1)
 
 pack-z2-requires : tie.Need-pack-z2-requires
 pack-z2-requires c κs =
-    let t = c .before .before .before .before .before .before .before .before .before .before .before in
+    let t = c .before .before .before .before .before .before .before .before .before in
     let s = t .before .before .before .before .before in (
       s .pre .1,
-      z2-small (s .args .form) (signature (s .args .s) (s .args .z1 .now) (s .args .z2 .now) (s .args .list .now)) (s .pre .2),
+      z2-small (s .args .form) (signature (s .args .s) (s .args .key) (s .args .z1 .now) (s .args .z2 .now) (s .args .list .now)) (s .pre .2),
       z2-room (s .args .form) (s .args .s) _ _ _ (t .before .before .z2-offset .ensures) (t .before .list-offset .ensures) (t .total .ensures) _ (c .pack-z2-arg .given .2),
     )
 
 sub-pack-list : tie.Need-sub-pack-list
 sub-pack-list c =
-    let t = c .before .before .before .before .before .before .before .before .before .before .before .before .before .before in
+    let t = c .before .before .before .before .before .before .before .before .before .before .before .before in
     let s = t .before .before .before .before .before in
     list-first (s .args .form) (s .args .s) _ _ _ (t .before .before .z2-offset .ensures) (t .before .list-offset .ensures) (t .total .ensures)
 
 part-pack-list-start : tie.Need-part-pack-list-start
 part-pack-list-start c =
-    let t = c .before .before .before .before .before .before .before .before .before .before .before .before .before .before in
+    let t = c .before .before .before .before .before .before .before .before .before .before .before .before in
     let s = t .before .before .before .before .before in
     list-first (s .args .form) (s .args .s) _ _ _ (t .before .before .z2-offset .ensures) (t .before .list-offset .ensures) (t .total .ensures)
 
@@ -175,15 +169,15 @@ part-pack-list-end c =
     let o3 = c .before in
     let o2 = o3 .before .before .before .before in
     let o1 = o2 .before .before .before .before in
-    let t = o1 .before .before .before .before .before in
+    let t = o1 .before .before .before in
     let s = t .before .before .before .before .before in
-    within-three (s .args .form) (s .args .s) _ _ _ (t .before .before .z2-offset .ensures) (t .before .list-offset .ensures) (t .total .ensures) (s .args .out .now) (o1 .before .copy .last .1 .0) (s .pre .3) (o1 .out .given .1) (o2 .before .pack-z1 .last .1 .1 .0) (o2 .out2 .given .1) (o3 .before .pack-z2 .last .1 .1 .0) (o3 .out3 .given .1)
+    within-three (s .args .form) (s .args .s) _ _ _ (t .before .before .z2-offset .ensures) (t .before .list-offset .ensures) (t .total .ensures) (s .args .out .now) (o1 .before .put-header .last .1 .1 .1 .0) (s .pre .3) (o1 .out .given .1) (o2 .before .pack-z1 .last .1 .1 .0) (o2 .out2 .given .1) (o3 .before .pack-z2 .last .1 .1 .0) (o3 .out3 .given .1)
 
 pack-list-requires : tie.Need-pack-list-requires
 pack-list-requires c κs =
-    let t = c .before .before .before .before .before .before .before .before .before .before .before .before .before .before .before in
+    let t = c .before .before .before .before .before .before .before .before .before .before .before .before .before in
     let s = t .before .before .before .before .before in
-    let g = signature (s .args .s) (s .args .z1 .now) (s .args .z2 .now) (s .args .list .now) in (
+    let g = signature (s .args .s) (s .args .key) (s .args .z1 .now) (s .args .z2 .now) (s .args .list .now) in (
       few _ (s .args .s) (proper-length g (s .pre .2)),
       list-small (s .args .form) g (s .pre .2),
       list-room (s .args .form) (s .args .s) _ _ _ (t .before .before .z2-offset .ensures) (t .before .list-offset .ensures) (t .total .ensures) _ (c .pack-list-arg .given .2) _ (proper-length g (s .pre .2)),
@@ -195,9 +189,9 @@ same-length c =
     let o3 = o4 .before .before .before .before in
     let o2 = o3 .before .before .before .before in
     let o1 = o2 .before .before .before .before in
-    let t = o1 .before .before .before .before .before in
+    let t = o1 .before .before .before in
     let s = t .before .before .before .before .before in
-    keeps (s .args .form) (s .args .s) _ _ _ (t .before .before .z2-offset .ensures) (t .before .list-offset .ensures) (t .total .ensures) (s .args .out .now) (o1 .before .copy .last .1 .0) (s .pre .3) (o1 .out .given .1) (o2 .before .pack-z1 .last .1 .1 .0) (o2 .out2 .given .1) (o3 .before .pack-z2 .last .1 .1 .0) (o3 .out3 .given .1) (o4 .before .pack-list .last .1 .1 .0) (o4 .out4 .given .1)
+    keeps (s .args .form) (s .args .s) _ _ _ (t .before .before .z2-offset .ensures) (t .before .list-offset .ensures) (t .total .ensures) (s .args .out .now) (o1 .before .put-header .last .1 .1 .1 .0) (s .pre .3) (o1 .out .given .1) (o2 .before .pack-z1 .last .1 .1 .0) (o2 .out2 .given .1) (o3 .before .pack-z2 .last .1 .1 .0) (o3 .out3 .given .1) (o4 .before .pack-list .last .1 .1 .0) (o4 .out4 .given .1)
 
 returns : tie.Need-returns
 returns c =
@@ -205,11 +199,11 @@ returns c =
     let n = p .before .before .before .before in
     let w = n .before .before .before .before in
     let h = w .before .before .before .before in
-    let t = h .before .before .before .before in
+    let t = h .before .before in
     let s = t .before .before .before .before .before in
-    let g = signature (s .args .s) (s .args .z1 .now) (s .args .z2 .now) (s .args .list .now) in
+    let g = signature (s .args .s) (s .args .key) (s .args .z1 .now) (s .args .z2 .now) (s .args .list .now) in
     pieces (s .args .form) g (s .args .out .now) _ _ _ _ _ _ _
-    (h .copy .ensures ∙ h .before .before .before .header-of .ensures) (w .pack-z1 .ensures) (n .pack-z2 .ensures)
+    (h .put-header .ensures) (w .pack-z1 .ensures) (n .pack-z2 .ensures)
     (p .pack-list .ensures ∙ ap (λ (m : ℕ). packedBits (listBitsOf (s .args .form)) m (s .args .list .now)) (proper-length g (s .pre .2)))
     (t .before .before .z2-offset .ensures) (t .before .list-offset .ensures) (t .total .ensures)
 
@@ -220,12 +214,10 @@ pack-spec =
     z2-offset-requires
     list-offset-requires
     total-requires
-    header-of-requires
-    slice-aggregate-copy
-    sub-copy
-    part-copy-start
-    part-copy-end
-    copy-requires
+    sub-put-header
+    part-put-header-start
+    part-put-header-end
+    put-header-requires
     sub-pack-z1
     part-pack-z1-start
     part-pack-z1-end

@@ -17,12 +17,12 @@ use Rattle.records.proofs.put.Statement.{statement}
 use Rattle.records.proofs.put.Tie as tie
 
 -- the two ways through a call, by the room
-module _ (form : Form) (s : Set) (z1 z2 : List ℤ) (list out : List ℕ) (total : ℕ) (k : total ≡ totalOf form s) where
-  short : length out < total → filled OutputShort out ≡ putTo form (signature s z1 z2 list) out
+module _ (form : Form) (s : Set) (key : ℕ) (z1 z2 : List ℤ) (list out : List ℕ) (total : ℕ) (k : total ≡ totalOf form s) where
+  short : length out < total → filled OutputShort out ≡ putTo form (signature s key z1 z2 list) out
   unfolding putTo
   short l = search calls depth 9
 
-  written : total ≤ length out → (now : List ℕ) → now ≡ recordOf form (signature s z1 z2 list) ++ drop (totalOf form s) out → filled Done now ≡ putTo form (signature s z1 z2 list) out
+  written : total ≤ length out → (now : List ℕ) → now ≡ recordOf form (signature s key z1 z2 list) ++ drop (totalOf form s) out → filled Done now ≡ putTo form (signature s key z1 z2 list) out
   unfolding putTo
   written l now w = search (long-enough, written-at) depth 9
 

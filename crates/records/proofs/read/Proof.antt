@@ -22,28 +22,28 @@ use Rattle.records.proofs.read.Tie as tie
 
 -- the ways through a call, each by the tests on it
 module _ (form : Form) (rec : List ℕ) (z1 z2 : List ℤ) (list : List ℕ) where
-  module _ (o : Outcome) (set : ℕ) (w : (o ≡ WrongLength) × (set ≡ 0)) where
-    z1-wrong : (length z1 ≡ dimension → ⊥) → found o set z1 z2 list ≡ readingOf form rec (buffers z1 z2 list)
+  module _ (o : Outcome) (set key : ℕ) (w : (o ≡ WrongLength) × (set ≡ 0) × (key ≡ 0)) where
+    z1-wrong : (length z1 ≡ dimension → ⊥) → found o set key (buffers z1 z2 list) ≡ readingOf form rec (buffers z1 z2 list)
     unfolding readingOf
     z1-wrong h = search (calls, refused-at) depth 9
 
-    z2-wrong : length z1 ≡ dimension → (length z2 ≡ dimension → ⊥) → found o set z1 z2 list ≡ readingOf form rec (buffers z1 z2 list)
+    z2-wrong : length z1 ≡ dimension → (length z2 ≡ dimension → ⊥) → found o set key (buffers z1 z2 list) ≡ readingOf form rec (buffers z1 z2 list)
     unfolding readingOf
     z2-wrong e h = search (calls, refused-at) depth 9
 
-    list-wrong : length z1 ≡ dimension → length z2 ≡ dimension → (length list ≡ listLimit → ⊥) → found o set z1 z2 list ≡ readingOf form rec (buffers z1 z2 list)
+    list-wrong : length z1 ≡ dimension → length z2 ≡ dimension → (length list ≡ listLimit → ⊥) → found o set key (buffers z1 z2 list) ≡ readingOf form rec (buffers z1 z2 list)
     unfolding readingOf
     list-wrong e f h = search (calls, refused-at) depth 9
 
   module _ (e : length z1 ≡ dimension) (f : length z2 ≡ dimension) (g : length list ≡ listLimit) (h : Header) (is : h ≡ headerIn form rec) where
-    header-malformed : (o : Outcome) (set place : ℕ) → h ≡ Malformed place → (o ≡ HeaderMalformed place) × (set ≡ 0) → found o set z1 z2 list ≡ readingOf form rec (buffers z1 z2 list)
+    header-malformed : (o : Outcome) (set key place : ℕ) → h ≡ Malformed place → (o ≡ HeaderMalformed place) × (set ≡ 0) × (key ≡ 0) → found o set key (buffers z1 z2 list) ≡ readingOf form rec (buffers z1 z2 list)
     unfolding readingOf
-    header-malformed o set place k w =
-        rw (eq-eqb (length z1) dimension e, eq-eqb (length z2) dimension f, eq-eqb (length list) listLimit g, sym is ∙ k) (refused-at o (HeaderMalformed place) set z1 z2 list w)
+    header-malformed o set key place k w =
+        rw (eq-eqb (length z1) dimension e, eq-eqb (length z2) dimension f, eq-eqb (length list) listLimit g, sym is ∙ k) (refused-at o (HeaderMalformed place) set key (buffers z1 z2 list) w)
 
-    header-states : (s : Set) (o : Outcome) (set : ℕ) (x y : List ℤ) (l : List ℕ) → h ≡ States s → found o set x y l ≡ readingFor form s rec (buffers z1 z2 list) → found o set x y l ≡ readingOf form rec (buffers z1 z2 list)
+    header-states : (s : Set) (o : Outcome) (set key : ℕ) (x y : List ℤ) (l : List ℕ) → h ≡ States s → found o set key (buffers x y l) ≡ readingFor form s rec (buffers z1 z2 list) → found o set key (buffers x y l) ≡ readingOf form rec (buffers z1 z2 list)
     unfolding readingOf
-    header-states s o set x y l k w = rw (eq-eqb (length z1) dimension e, eq-eqb (length z2) dimension f, eq-eqb (length list) listLimit g, sym is ∙ k) w
+    header-states s o set key x y l k w = rw (eq-eqb (length z1) dimension e, eq-eqb (length z2) dimension f, eq-eqb (length list) listLimit g, sym is ∙ k) w
 
 refused-requires : tie.Need-refused-requires
 refused-requires c κs = search needs

@@ -1,3 +1,4 @@
+mod Lent
 use Rattle.record_forms.proofs.Ways.{calls}
 use Rattle.records.specs.Writer.{writingOf}
 use borrow.Author.Needs.{needs}

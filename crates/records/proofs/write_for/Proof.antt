@@ -18,17 +18,17 @@ use Rattle.records.proofs.write_for.Statement.{statement}
 use Rattle.records.proofs.write_for.Tie as tie
 
 -- the ways through a call, each by the tests on it
-module _ (form : Form) (s : Set) (z1 z2 : List ℤ) (list out : List ℕ) where
-  z1-wrong : (length z1 ≡ dimension → ⊥) → filled WrongLength out ≡ writingFor form (signature s z1 z2 list) out
+module _ (form : Form) (s : Set) (key : ℕ) (z1 z2 : List ℤ) (list out : List ℕ) where
+  z1-wrong : (length z1 ≡ dimension → ⊥) → filled WrongLength out ≡ writingFor form (signature s key z1 z2 list) out
   unfolding writingFor
   z1-wrong h = search calls depth 9
 
   module _ (e : length z1 ≡ dimension) where
-    z2-wrong : (length z2 ≡ dimension → ⊥) → filled WrongLength out ≡ writingFor form (signature s z1 z2 list) out
+    z2-wrong : (length z2 ≡ dimension → ⊥) → filled WrongLength out ≡ writingFor form (signature s key z1 z2 list) out
     unfolding writingFor
     z2-wrong h = search calls depth 9
 
-    lengths-right : length z2 ≡ dimension → (o : Outcome) (now : List ℕ) → filled o now ≡ recordedTo form (signature s z1 z2 list) out → filled o now ≡ writingFor form (signature s z1 z2 list) out
+    lengths-right : length z2 ≡ dimension → (o : Outcome) (now : List ℕ) → filled o now ≡ recordedTo form (signature s key z1 z2 list) out → filled o now ≡ writingFor form (signature s key z1 z2 list) out
     unfolding writingFor
     lengths-right f o now w = search right-length depth 9
 

@@ -1,28 +1,24 @@
+use mathlib.Core.Path.{_≡_, ap, _∙_}
+use Prim.Native.Nat.{ℕ}
+use mathlib.Core.List.{List}
+use lib.IntN.{ℤ}
+use Rattle.answers.specs.declared.Outcome.{Outcome}
+use Rattle.answers.specs.Outcomes.{keyWith}
+use Rattle.signing.specs.Response.{Lent, unnumbered, responded, numbered, responding, response}
 use borrow.Author.Needs.{needs}
-use Rattle.answers.proofs.Calls.{calls}
-use Rattle.signing.specs.Response.{response}
-use Rattle.signing.proofs.Ways.{refusal-at}
 use Rattle.signing.proofs.respond.Statement.{statement}
 use Rattle.signing.proofs.respond.Tie as tie
 
-asked-requires : tie.Need-asked-requires
-asked-requires c κs = search needs
-
-enum-told : tie.Need-enum-told
-enum-told c = search needs
-
-refusal-requires : tie.Need-refusal-requires
-refusal-requires c κs = search needs
-
-enum-known-s : tie.Need-enum-known-s
-enum-known-s c = search needs
-
-respond-for-requires : tie.Need-respond-for-requires
-respond-for-requires c κs = search needs
-
-returns : tie.Need-returns
+with-key : (set key : ℕ) (c : Lent) (o : Outcome) (count back : ℕ) (z1 z2 : List ℤ) → unnumbered o count z1 z2 ≡ responding set c → back ≡ keyWith o key
+    → responded o count back z1 z2 ≡ response set key c
 unfolding response
-returns c = search (calls, refusal-at)
+with-key set key c o count back z1 z2 e f = ap (λ (k : ℕ). responded o count k z1 z2) f ∙ ap (numbered key) e
+
+responding-requires : tie.Need-responding-requires
+responding-requires c κs = search needs
+
+key-with-requires : tie.Need-key-with-requires
+key-with-requires c κs = search needs
 
 same-length : tie.Need-same-length
 same-length c = search needs
@@ -30,20 +26,8 @@ same-length c = search needs
 same-length-2 : tie.Need-same-length-2
 same-length-2 c = search needs
 
-returns-2 : tie.Need-returns-2
-unfolding response
-returns-2 c = search calls
+returns : tie.Need-returns
+returns c = search with-key
 
 pub respond-spec : {M : Type 1} → statement M
-respond-spec =
-    tie.close
-    (tie.spec
-    asked-requires
-    enum-told
-    refusal-requires
-    enum-known-s
-    respond-for-requires
-    returns
-    same-length
-    same-length-2
-    returns-2)
+respond-spec = tie.close (tie.spec responding-requires key-with-requires same-length same-length-2 returns)

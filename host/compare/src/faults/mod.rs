@@ -108,6 +108,7 @@ const WITH_LIST: &[Call] = &[
 ];
 const WITH_HASHED: &[Call] = &[Compare, CompareDefaultOne];
 const WITH_SIGNATURE: &[Call] = &[Rebuild, Write, RebuildDefaultOne, WritePacked];
+const WITH_KEY_NUMBER: &[Call] = &[Respond, Write, WritePacked];
 const READING: &[Call] = &[Read, ReadPacked];
 const WITH_RECORD: &[Call] = &[
     Read,

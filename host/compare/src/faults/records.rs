@@ -1,11 +1,12 @@
-//! Records: refusals 13 and 14, and damaged sections.
+//! Records: refusals 13 and 14, damaged sections, and key numbers, which no call refuses.
 
 use super::lists::deform;
 use super::{fault, place_in, record_fault, set_of};
-use super::{Fault, WITH_PACKED, WITH_RECORD, WITH_RECORD_OUTPUT};
-use second::form::{bit, turn_bit, Section, HEADER};
+use super::{Fault, WITH_KEY_NUMBER, WITH_PACKED, WITH_RECORD, WITH_RECORD_OUTPUT};
+use second::form::{bit, turn_bit, Section, HEADER, KEY_FIELD};
 use second::parameters::N;
 use second::testing::calls::Input;
+use second::testing::key_numbers;
 use second::testing::noise::Noise;
 use second::{Form, Set};
 
@@ -29,6 +30,10 @@ pub const FAULTS: &[Fault] = &[
     record_fault("header of the other form", WITH_RECORD, other_header),
     record_fault("header byte", WITH_RECORD, header_byte),
     record_fault("set byte", WITH_RECORD, set_byte),
+    record_fault("record's key number", WITH_RECORD, record_key),
+    fault("another key number", WITH_KEY_NUMBER, |input, noise| {
+        input.key = key_numbers::any(noise)
+    }),
     record_fault("spare bit", WITH_PACKED, spare_bit),
     record_fault("record's list", WITH_RECORD, record_list),
     record_fault("record's z1", WITH_RECORD, record_z1_entry),
@@ -72,7 +77,7 @@ fn other_letters(form: Form, input: &mut Input, _: &mut Noise) {
 
 /// The whole header, with this form's letters or its own.
 fn other_header(form: Form, input: &mut Input, noise: &mut Noise) {
-    let mut header = form.other().header(set_of(input));
+    let mut header = form.other().header(set_of(input), input.key);
     if noise.bit() {
         put_front(&mut header, form.letters());
     }
@@ -88,6 +93,13 @@ fn header_byte(form: Form, input: &mut Input, noise: &mut Noise) {
 fn set_byte(form: Form, input: &mut Input, noise: &mut Noise) {
     if let Some(byte) = input.record_in(form).get_mut(4) {
         *byte = noise.below(Set::ABOVE as usize + 2) as u8;
+    }
+}
+
+fn record_key(form: Form, input: &mut Input, noise: &mut Noise) {
+    let key = key_numbers::any(noise);
+    if let Some(bytes) = input.record_in(form).get_mut(KEY_FIELD) {
+        bytes.copy_from_slice(&key.to_le_bytes());
     }
 }
 

@@ -1,10 +1,9 @@
 //! The faults that are planted, and the one that is in the library now.
 
-use second::form::FIELDS;
 #[cfg(target_arch = "x86_64")]
 use second::parameters::KeyCounts;
 use second::testing::calls::Call::{self, *};
-use second::{Form, Set};
+use second::{Edition, Form, Set};
 use std::cell::Cell;
 use std::fmt;
 
@@ -71,6 +70,20 @@ pub enum Wrong {
     SpareSet,
     /// The output for a record is tested first.
     RoomFirst,
+    /// The key number that is answered is off by one.
+    Key,
+    /// A refusal with this number answers the key number that was lent or stands in the record.
+    KeptKey(u32),
+    /// The key number that is answered or written has its high byte first.
+    KeyHighFirst,
+    /// The key number that is answered or written is 0.
+    KeyCleared,
+    /// The key number that is answered or written has its low two bytes alone.
+    KeyHalf,
+    /// A record with another byte than 0 among bytes 20-23 is refused.
+    KeyTested,
+    /// A key number whose highest bit is set is refused.
+    KeyRefused,
 }
 
 /// A rule on the counts of f and of g that lets more keys pass than the paper's.
@@ -205,6 +218,13 @@ impl fmt::Display for Wrong {
             Wrong::SpareLast => write!(out, "spare bits tested after 5, 10 and 11"),
             Wrong::SpareSet => write!(out, "a spare bit written as one"),
             Wrong::RoomFirst => write!(out, "14 tested before the other refusals"),
+            Wrong::Key => write!(out, "key number off by one"),
+            Wrong::KeptKey(number) => write!(out, "key number kept with {number}"),
+            Wrong::KeyHighFirst => write!(out, "key number high byte first"),
+            Wrong::KeyCleared => write!(out, "key number cleared"),
+            Wrong::KeyHalf => write!(out, "high half of the key number lost"),
+            Wrong::KeyTested => write!(out, "bytes 20-23 still tested"),
+            Wrong::KeyRefused => write!(out, "a key number of 2^31 or more refused"),
         }
     }
 }
@@ -263,7 +283,8 @@ fn wrong_records(call: Call) -> Vec<Wrong> {
     let mut wrongs = Vec::new();
     if takes.is_some() {
         wrongs.push(Wrong::OtherForm);
-        wrongs.extend(FIELDS.map(|field| Wrong::Field(field.start as u32)));
+        let fields = Edition::THIS.fields();
+        wrongs.extend(fields.map(|field| Wrong::Field(field.start as u32)));
     }
     if writes.is_some() {
         wrongs.extend([Wrong::Tail(Record), Wrong::RoomFirst]);
@@ -276,6 +297,26 @@ fn wrong_records(call: Call) -> Vec<Wrong> {
     }
     if writes == Some(Form::Packed) {
         wrongs.push(Wrong::SpareSet);
+    }
+    wrongs
+}
+
+/// What can be wrong with the key number that a call is given, answers, reads or writes.
+fn wrong_keys(call: Call) -> Vec<Wrong> {
+    let mut wrongs = Vec::new();
+    if call.answers_key() {
+        wrongs.push(Wrong::Key);
+        let refusals = call.numbers().iter().filter(|number| **number != 0);
+        wrongs.extend(refusals.map(|&number| Wrong::KeptKey(number)));
+    }
+    if call.answers_key() || call.writes().is_some() {
+        wrongs.extend([Wrong::KeyHighFirst, Wrong::KeyCleared, Wrong::KeyHalf]);
+    }
+    if call.takes().is_some() {
+        wrongs.push(Wrong::KeyTested);
+    }
+    if call.takes_key() {
+        wrongs.push(Wrong::KeyRefused);
     }
     wrongs
 }
@@ -294,6 +335,7 @@ fn wrongs(call: Call) -> Vec<Wrong> {
     }
     wrongs.push(Wrong::Place);
     wrongs.extend(wrong_records(call));
+    wrongs.extend(wrong_keys(call));
     match call {
         Respond => wrongs.extend([0, 15, 8, 9, 10, 11].map(Wrong::Words)),
         Read | ReadPacked => wrongs.extend([Wrong::Set, Wrong::Tail(List), Wrong::OlderList]),

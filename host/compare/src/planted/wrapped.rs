@@ -4,7 +4,7 @@
 use crate::faults::{wrong_with, Buffer, Wrong};
 use bursztok::foreign::{Answer, Part, Reading, Response};
 use second::answers::number_and_place;
-use second::form::{bit, turn_bit, Section, HEADER};
+use second::form::{bit, key_in, turn_bit, Section, HEADER, KEY_FIELD};
 use second::key::{counts_of, require_counts, require_key_length, require_relation};
 use second::parameters::N;
 use second::record::Held;
@@ -59,6 +59,32 @@ impl Answered {
         if self.is(Wrong::Place) && (placed(self.number) || !has_places && self.number != 0) {
             *place += 1;
         }
+    }
+
+    /// The key number that a library answers or writes in place of this one.
+    fn other_key(self, key: u32) -> u32 {
+        match self.wrong {
+            Some(Wrong::KeyHighFirst) => key.swap_bytes(),
+            Some(Wrong::KeyCleared) => 0,
+            Some(Wrong::KeyHalf) => key & 0xffff,
+            _ => key,
+        }
+    }
+
+    /// Spoils the key number that the call answers, where this one went into it.
+    fn spoil_key(self, answered: &mut u32, lent: u32) {
+        if self.is(Wrong::KeptKey(self.number)) {
+            *answered = lent;
+        }
+        if self.number == 0 {
+            *answered = self.other_key(*answered);
+            *answered = answered.wrapping_add(u32::from(self.is(Wrong::Key)));
+        }
+    }
+
+    /// Whether a library refuses the call for the key number that it is given.
+    fn refuses_key(self, key: u32) -> bool {
+        self.number == 0 && key >> 31 == 1 && self.is(Wrong::KeyRefused)
     }
 
     /// Whether the call is done with a record of a set that the library does not know.
@@ -136,7 +162,7 @@ impl Answered {
     }
 
     /// The number and place of a library that tests spare bits or the output at the wrong place of
-    /// the order; none where that makes no difference.
+    /// the order, or bytes 20-23; none where that makes no difference.
     fn by_order(self, lent: &[u8], place: u32, room: Option<usize>) -> Option<(u32, u32)> {
         match self.wrong? {
             Wrong::SpareFirst if self.number == 13 && place > 4 => {
@@ -150,6 +176,11 @@ impl Answered {
                 let mut out = vec![0; bursztok::RECORD];
                 let later = unpack(&without_spare(lent)?, &mut out);
                 later.err().map(|refusal| (refusal.number, refusal.place))
+            }
+            Wrong::KeyTested => {
+                // Lengths go before it, and the header's other fields; spare bits stand behind the header.
+                let first = self.number == 2 || self.number == 13 && place < HEADER as u32;
+                (key_stated(lent) != 0 && !first).then_some((13, KEY_FIELD.start as u32))
             }
             Wrong::RoomFirst => {
                 let set = Set::stated(lent.get(4).copied()?.into())?;
@@ -194,11 +225,21 @@ impl Answered {
     /// # Safety
     /// `out` is good for `length` bytes and for one before them.
     unsafe fn spoil_record(self, out: *mut u8, length: usize) {
-        if self.number == 0 && self.call.writes() == Some(Form::Packed) {
-            self.spoil_packed(unsafe { from_raw_parts_mut(out, length) });
+        if self.number == 0 {
+            let record = unsafe { from_raw_parts_mut(out, length) };
+            let key = self.other_key(key_in(record));
+            record[KEY_FIELD].copy_from_slice(&key.to_le_bytes());
+            if self.call.writes() == Some(Form::Packed) {
+                self.spoil_packed(record);
+            }
         }
         unsafe { self.spoil_buffer(Buffer::Record, out, length) };
     }
+}
+
+/// The key number in a record, 0 where it has no header.
+fn key_stated(record: &[u8]) -> u32 {
+    record.get(KEY_FIELD).map_or(0, |_| key_in(record))
 }
 
 /// The record in the other form than this one, where it is a proper one of this form.
@@ -297,7 +338,7 @@ wrapped!(
 wrapped!(
     Respond, __wrap_bursztok_respond, __real_bursztok_respond, [set],
     (
-        set: u32, f: *const i8, f_len: usize, g: *const i8, g_len: usize, a: *const u16,
+        set: u32, key: u32, f: *const i8, f_len: usize, g: *const i8, g_len: usize, a: *const u16,
         a_len: usize, y1: *const i16, y1_len: usize, y2: *const i16, y2_len: usize,
         list: *const u16, list_len: usize, sign: bool, thresholds: *const u64,
         thresholds_len: usize, words: *const u64, words_len: usize, z1: *mut i16, z1_len: usize,
@@ -310,6 +351,10 @@ wrapped!(
         }
         if answered.is(Wrong::Words(answered.number)) {
             found.words += 1;
+        }
+        answered.spoil_key(&mut found.key, key);
+        if answered.refuses_key(key) {
+            (found.number, found.key) = (1, 0);
         }
         answered.spoil_buffer(Buffer::Z1, z1, z1_len);
         answered.spoil_buffer(Buffer::Z2, z2, z2_len);
@@ -353,13 +398,16 @@ macro_rules! wrapped_writer {
         wrapped!(
             $call, $wrap, $real, [set],
             (
-                set: u32, z1: *const i16, z1_len: usize, z2: *const i8, z2_len: usize,
+                set: u32, key: u32, z1: *const i16, z1_len: usize, z2: *const i8, z2_len: usize,
                 list: *const u16, list_len: usize, out: *mut u8, out_len: usize,
             ) -> Answer,
             |found, answered| {
                 let set = Set::asked(set).ok();
                 if let Some(order) = set.and_then(|set| answered.without_room(set, out_len)) {
                     (found.number, found.place) = order;
+                }
+                if answered.refuses_key(key) {
+                    found.number = 1;
                 }
                 answered.spoil_record(out, out_len);
             }
@@ -374,6 +422,16 @@ wrapped_writer!(
     __real_bursztok_write_packed
 );
 
+/// A reader's refusal.
+fn refused(number: u32, place: u32) -> Reading {
+    Reading {
+        number,
+        place,
+        set: 0,
+        key: 0,
+    }
+}
+
 macro_rules! wrapped_reader {
     ($call:ident, $wrap:ident, $real:ident) => {
         wrapped!(
@@ -387,15 +445,16 @@ macro_rules! wrapped_reader {
                 if answered.is(Wrong::Set) && answered.number == 0 {
                     found.set += 1;
                 }
+                answered.spoil_key(&mut found.key, key_stated(lent));
                 if answered.is_unread(lent) {
-                    (found.number, found.place, found.set) = (13, 4, 0);
+                    found = refused(13, 4);
                 }
                 let older = [z1_len, z2_len, list_len] == [N, N, Edition::OLDER.list_buffer()];
                 if answered.is(Wrong::OlderList) && answered.number == 2 && older {
                     found.number = 0;
                 }
-                if let Some(order) = answered.by_order(lent, found.place, None) {
-                    (found.number, found.place) = order;
+                if let Some((number, place)) = answered.by_order(lent, found.place, None) {
+                    found = refused(number, place);
                 }
                 if let Some(other) = answered.taken_for(lent) {
                     let (at, length) = (other.as_ptr(), other.len());
@@ -465,8 +524,9 @@ unsafe fn section(
             length: 832,
         };
     }
-    if answered.is_unread(lent) {
-        (*number, *place) = (13, 4);
+    let unread = answered.is_unread(lent).then_some((13, 4));
+    if let Some(order) = unread.or_else(|| answered.by_order(lent, *place, None)) {
+        (*number, *place) = order;
         return Part {
             start: 0,
             length: 0,

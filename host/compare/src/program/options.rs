@@ -7,10 +7,11 @@ pub const USAGE: &str = "\
 bursztok-compare [--seed N] [--cases N | --seconds N] [--case N]
 
 Runs every call of the library against the second program: first the planned cases (every edge of a
-key's counts, every pair of faults of every call and set, every header bit, every length of a
-record, every spare bit and every bit of an entry in both forms, every count of words, every step of
-the draw, masks that make the dropped digits cost their figure), then random ones. At the end it
-tells how far 2^d times z2 dagger lay from z2 in each set, beside the figure.
+key's counts, every pair of faults of every call and set, every header bit, every bit of a key
+number, every length of a record, every spare bit and every bit of an entry in both forms, every
+count of words, every step of the draw, masks that make the dropped digits cost their figure), then
+random ones. At the end it tells how far 2^d times z2 dagger lay from z2 in each set, beside the
+figure.
 
   --seed N     what all cases are made from (default: a fresh one, which is printed)
   --cases N    so many random cases after the planned ones (default 1000)
@@ -18,8 +19,8 @@ tells how far 2^d times z2 dagger lay from z2 in each set, beside the figure.
   --case N     only the case of this number
 
 The last line is 'N passed, M failed', in compared calls; a number that a call never gave is a
-failure, and so are a number that it can't give and a figure that no response reached. Exit status:
-0 all passed, 1 some failed, 2 bad usage.";
+failure, and so are a number that it can't give, a figure that no response reached, and a byte of a
+key number that a call was never done with. Exit status: 0 all passed, 1 some failed, 2 bad usage.";
 
 const FORM: Form = Form {
     name: "bursztok-compare",

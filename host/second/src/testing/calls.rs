@@ -120,6 +120,21 @@ impl Call {
         self.takes().is_none()
     }
 
+    /// Whether it is given a key number: a record states its own.
+    pub fn takes_key(self) -> bool {
+        matches!(self, Call::Respond | Call::Write | Call::WritePacked)
+    }
+
+    /// Whether a key number goes into it: it is given one, or is lent a record.
+    pub fn has_key(self) -> bool {
+        self.takes_key() || self.takes().is_some()
+    }
+
+    /// Whether it answers a key number.
+    pub fn answers_key(self) -> bool {
+        matches!(self, Call::Respond | Call::Read | Call::ReadPacked)
+    }
+
     /// The set that a number asks the call for: 0 stands for set 4, and for set 1 on the calls that
     /// keep the old default.
     pub fn asked(self, number: u32) -> Result<Set, Refusal> {
@@ -151,6 +166,8 @@ impl Call {
 #[derive(Clone, Debug, Default)]
 pub struct Input {
     pub set: u32,
+    /// The key number.
+    pub key: u32,
     pub f: Vec<i8>,
     pub g: Vec<i8>,
     pub a: Vec<u16>,
@@ -224,6 +241,8 @@ pub struct Answered {
     pub words: u64,
     /// The set that a reader answers.
     pub set: u32,
+    /// The key number that the response or a reader answers.
+    pub key: u32,
     /// Start and length of a section in the lent record.
     pub part: (usize, usize),
     /// The size that a set's number was asked for.
@@ -258,7 +277,9 @@ impl Answered {
 
 /// Runs a call of the second program.
 pub fn run(call: Call, input: &Input, out: Outputs) -> Answered {
-    let Input { set, list, a, .. } = input;
+    let Input {
+        set, key, list, a, ..
+    } = input;
     let outcome = match call {
         Call::KeyTest => key_test(*set, &input.f, &input.g, a),
         Call::Commitment => commitment(*set, a, &input.y1, &input.y2, out.rounded),
@@ -271,13 +292,17 @@ pub fn run(call: Call, input: &Input, out: Outputs) -> Answered {
         }
         Call::Compare => compare(*set, list, &input.hashed),
         Call::CompareDefaultOne => compare_default_one(*set, list, &input.hashed),
-        Call::Write => write(*set, &input.z1, &input.z2_dagger, list, out.record),
-        Call::WritePacked => write_packed(*set, &input.z1, &input.z2_dagger, list, out.record),
+        Call::Write => write(*set, *key, &input.z1, &input.z2_dagger, list, out.record),
+        Call::WritePacked => {
+            let (z1, z2_dagger) = (&input.z1, &input.z2_dagger);
+            write_packed(*set, *key, z1, z2_dagger, list, out.record)
+        }
         Call::Pack => pack(&input.record, out.record),
         Call::Unpack => unpack(&input.packed, out.record),
         Call::Respond => {
             let response = respond(
                 *set,
+                *key,
                 &input.f,
                 &input.g,
                 a,
@@ -292,6 +317,7 @@ pub fn run(call: Call, input: &Input, out: Outputs) -> Answered {
             );
             return Answered {
                 words: response.words,
+                key: response.key,
                 ..Answered::new(number_and_place(response.outcome))
             };
         }
@@ -314,6 +340,7 @@ pub fn run(call: Call, input: &Input, out: Outputs) -> Answered {
 fn reading(reading: Reading) -> Answered {
     Answered {
         set: reading.set,
+        key: reading.key,
         ..Answered::new(number_and_place(reading.outcome))
     }
 }

@@ -6,6 +6,7 @@ pub mod calls;
 pub mod edges;
 pub mod euclid;
 pub mod hash;
+pub mod key_numbers;
 pub mod keys;
 pub mod noise;
 pub mod sheet;

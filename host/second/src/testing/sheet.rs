@@ -4,6 +4,7 @@
 use super::hash::list_of;
 use super::keys::Key;
 use super::noise::{thresholds, Noise};
+use crate::form::KEY_NOT_STATED;
 use crate::parameters::{Set, N};
 use crate::{commitment, respond, Response};
 
@@ -56,11 +57,13 @@ impl Try {
         (new, committed)
     }
 
-    /// The response to this try; z1 and z2 dagger are zeros where it refuses.
+    /// The response to this try, with no key number stated; z1 and z2 dagger are zeros where it
+    /// refuses.
     pub fn respond(&self, set: Set, key: &Key) -> (Response, Signature) {
         let (mut z1, mut z2_dagger) = (vec![0; N], vec![0; N]);
         let response = respond(
             set.number(),
+            KEY_NOT_STATED,
             &key.f,
             &key.g,
             &key.a,

@@ -82,7 +82,7 @@ impl Recording<'_> {
         self.recorder.load(Z2_DAGGER, z2_dagger);
         self.call(Call::Rebuild);
         self.call(Call::Write);
-        let held = Held::new(self.set, z1, z2_dagger, list);
+        let held = Held::new(self.set, self.key_number(), z1, z2_dagger, list);
         self.recorder.load(RECORD, &held.record(Form::Plain));
         self.call(Call::Read);
     }

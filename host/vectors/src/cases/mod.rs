@@ -3,6 +3,7 @@
 mod checking;
 mod defaults;
 mod faults;
+mod key_numbers;
 mod keys;
 mod packed;
 mod records;
@@ -11,6 +12,7 @@ mod signing;
 
 use crate::recorder::Recorder;
 use crate::slots::{Asked, A, F, G};
+use second::form::KEY_NOT_STATED;
 use second::testing::calls::{Answered, Call, OutputLengths};
 use second::testing::keys::{published, Key};
 use second::testing::noise::Noise;
@@ -18,7 +20,7 @@ use second::Set;
 
 /// The file of vectors that this seed makes.
 pub fn vectors(seed: u64) -> Vec<u8> {
-    let mut recorder = Recorder::default();
+    let mut recorder = Recorder::new(seed);
     reference::reference_point(&mut recorder);
     for set in Set::ALL {
         let mut noise = Noise::part(seed, u64::from(set.number()));
@@ -39,6 +41,7 @@ pub fn vectors(seed: u64) -> Vec<u8> {
         recording.writer_refusals(Call::Write, &signed.signature);
         recording.reader_refusals(&signed.signature);
         recording.both_forms(&signed.signature);
+        recording.key_numbers(&signed.last_try, &signed.signature);
         recording.sums();
         recording.other_keys();
         if set.like() == set {
@@ -51,10 +54,12 @@ pub fn vectors(seed: u64) -> Vec<u8> {
     recorder.finish()
 }
 
-/// A call of this set with sign bit 0 and every output array at its stated length.
+/// A call of this set with sign bit 0 and every output array at its stated length. The recorder has its
+/// fill and, but for `call_with_key`, its key number.
 fn asked(set: u32) -> Asked {
     Asked {
         set,
+        key: KEY_NOT_STATED,
         sign: false,
         lengths: OutputLengths::stated(Set::asked(set).expect("a set")),
         fill: 0,

@@ -2,13 +2,13 @@
 
 use super::{with_lengths, Recording};
 use crate::slots::{LIST, RECORD, Z1, Z2_DAGGER};
-use second::form::{turn_bit, Section, FIELDS, HEADER};
+use second::form::{turn_bit, Section, HEADER};
 use second::parameters::N;
 use second::record::Held;
 use second::testing::boundary::largest_z2_dagger;
 use second::testing::calls::Call;
 use second::testing::sheet::Signature;
-use second::{Form, Set};
+use second::{Edition, Form, Set};
 
 impl Recording<'_> {
     /// The sheet that is loaded, written, read and converted in both forms; the refusals of what
@@ -95,7 +95,7 @@ fn spare_bits_set(form: Form, set: Set, right: &[u8]) -> Vec<Vec<u8>> {
     };
     let spare = form.spare_bits(set);
     let changes: [fn(&mut Vec<u8>); 3] = [
-        |record| record[20] = 1,
+        |record| record[16] ^= 1,
         |record| record.push(0),
         // A whole place becomes 0.
         |record| record[1120..1123].fill(0),
@@ -106,14 +106,14 @@ fn spare_bits_set(form: Form, set: Set, right: &[u8]) -> Vec<Vec<u8>> {
     changed.chain(alone).collect()
 }
 
-/// Each field of the header wrong, no set and none above, and other lengths.
+/// Each field of the header wrong that can be, no set and none above, and other lengths.
 fn wrong_headers(right: &[u8]) -> Vec<Vec<u8>> {
     let with = |at: usize, byte: u8| {
         let mut record = right.to_vec();
         record[at] = byte;
         record
     };
-    let fields = FIELDS.into_iter();
+    let fields = Edition::THIS.fields();
     let mut records: Vec<Vec<u8>> = fields
         .map(|field| with(field.start, right[field.start] ^ 1))
         .collect();

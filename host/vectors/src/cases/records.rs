@@ -19,14 +19,14 @@ const READING: [Call; 4] = [
 ];
 
 impl Recording<'_> {
-    /// What a record of this signature holds.
+    /// What a record of this signature holds, with the set's key number.
     pub(super) fn held(&self, signature: &Signature) -> Held {
         let Signature {
             z1,
             z2_dagger,
             list,
         } = signature;
-        Held::new(self.set, z1, z2_dagger, list)
+        Held::new(self.set, self.key_number(), z1, z2_dagger, list)
     }
 
     /// The record of a signature, and what is read from it.

@@ -25,5 +25,5 @@ lent-bytes c = fit-bytes (now (c .before .args .rec)) (c .shared-slice-known .gi
 pub lent-read-writes : (c : Call) (r : _) (s : _)
     → read.Post (c .before .κs) (c .before .args .form, (c .before .args .rec, (c .before .args .z1, (c .before .args .z2, (c .before .args .list, tt))))) r s
     → numberOf (r .outcome) ≡ 0
-    → WritesBack (c .before .args .form) (now (c .before .args .rec)) (offered (r .set) (now (reader-z1 s)) (now (reader-z2 s)) (now (reader-list s)))
-lent-read-writes c r s post zero = read-writes _ _ (lent-bytes c) _ _ _ _ _ _ zero (sym post)
+    → WritesBack (c .before .args .form) (now (c .before .args .rec)) (offered (r .set) (r .key) (now (reader-z1 s)) (now (reader-z2 s)) (now (reader-list s)))
+lent-read-writes c r s post zero = read-writes _ _ (lent-bytes c) _ _ _ _ _ zero (sym post)

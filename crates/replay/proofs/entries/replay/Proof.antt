@@ -5,10 +5,10 @@ use Rattle.replay.proofs.entries.replay.Statement.{statement}
 use Rattle.replay.proofs.entries.replay.Tie as tie
 
 abbrev Inv-loop : tie.InvT-loop
-Inv-loop fd memory₀ counts₀ said₀ left₀ t5 memory counts said left = (length memory ≡ 38912) × (length counts ≡ 288) × (length said ≡ 4)
+Inv-loop fd before memory₀ counts₀ said₀ left₀ t5 memory counts said left = (length memory ≡ 38912) × (length counts ≡ 288) × (length said ≡ 6)
 
 abbrev μ-loop : tie.MeasureT-loop
-μ-loop fd memory₀ counts₀ said₀ left₀ t5 memory counts said left = left
+μ-loop fd before memory₀ counts₀ said₀ left₀ t5 memory counts said left = left
 
 stated-requires : tie.Need-stated-requires Inv-loop μ-loop
 stated-requires c κs = search needs

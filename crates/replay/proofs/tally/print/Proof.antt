@@ -9,6 +9,12 @@ Inv-loop counts sum₀ i₀ t4 t5 sum i = (16 ≤ i) × (i ≤ 288)
 abbrev μ-loop : tie.MeasureT-loop
 μ-loop counts sum₀ i₀ t4 t5 sum i = 288 - i
 
+shared-slice-read-no-longer : tie.Need-shared-slice-read-no-longer Inv-loop μ-loop
+shared-slice-read-no-longer c = search needs
+
+no-longer-requires : tie.Need-no-longer-requires Inv-loop μ-loop
+no-longer-requires c κs = search needs
+
 loop-holds : tie.Need-loop-holds Inv-loop μ-loop
 loop-holds c = search needs
 
@@ -66,6 +72,8 @@ print-spec =
     (tie.spec
     Inv-loop
     μ-loop
+    shared-slice-read-no-longer
+    no-longer-requires
     loop-holds
     mul-line
     shared-slice-read-line

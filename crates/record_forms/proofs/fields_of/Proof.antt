@@ -12,12 +12,12 @@ use Rattle.byte_codes.specs.Bytes.{bytesOf}
 use Rattle.record_forms.specs.declared.Form.{Form}
 use Rattle.record_forms.specs.declared.Form.the-variants.{Plain, Packed}
 use Rattle.record_forms.specs.Forms.{lettersOf, z1Offset, z2OffsetOf, listOffsetOf, totalOf}
-use Rattle.record_forms.specs.Headers.{headerOf}
+use Rattle.record_forms.specs.Headers.{fieldsOf}
 use Rattle.record_forms.proofs.Forms.{list-after, list-early, total-small}
 use Rattle.record_forms.proofs.Stated.{number-byte}
 use borrow.Author.Needs.{needs}
-use Rattle.record_forms.proofs.header_of.Statement.{statement}
-use Rattle.record_forms.proofs.header_of.Tie as tie
+use Rattle.record_forms.proofs.fields_of.Statement.{statement}
+use Rattle.record_forms.proofs.fields_of.Tie as tie
 
 -- what the casts ask
 number-fits : (n : ℕ) (s : Set) → n ≡ setNumberOf s → Fits w8 n
@@ -44,54 +44,54 @@ abbrev built : List ℕ → ℕ → ℕ → ℕ → ℕ → ℕ → List ℕ
 built letters number z2 kappa list total =
     put 18 total (put 16 list (put 14 kappa (put 12 z2 (put 10 dimension (put 8 z1Offset (put 6 dimension
     (getD letters 0 0 ∷ getD letters 1 0 ∷ getD letters 2 0 ∷ getD letters 3 0 ∷ number
-    ∷ 0 ∷ 0 ∷ 0 ∷ 0 ∷ 0 ∷ 0 ∷ 0 ∷ 0 ∷ 0 ∷ 0 ∷ 0 ∷ 0 ∷ 0 ∷ 0 ∷ 0 ∷ 0 ∷ 0 ∷ 0 ∷ 0 ∷ [])))))))
+    ∷ 0 ∷ 0 ∷ 0 ∷ 0 ∷ 0 ∷ 0 ∷ 0 ∷ 0 ∷ 0 ∷ 0 ∷ 0 ∷ 0 ∷ 0 ∷ 0 ∷ 0 ∷ [])))))))
 
-built-is : (form : Form) (s : Set) → built (lettersOf form) (setNumberOf s) (z2OffsetOf form) (kappaOf s) (listOffsetOf form) (totalOf form s) ≡ headerOf form s
-unfolding headerOf bytesOf
+built-is : (form : Form) (s : Set) → built (lettersOf form) (setNumberOf s) (z2OffsetOf form) (kappaOf s) (listOffsetOf form) (totalOf form s) ≡ fieldsOf form s
+unfolding fieldsOf bytesOf
 built-is form s =
     ap (λ (number : ℕ). built (lettersOf form) number (z2OffsetOf form) (kappaOf s) (listOffsetOf form) (totalOf form s)) (sym (number-byte s))
     ∙ elim form [ Plain ↦ refl | Packed ↦ refl ]
 
 module _ (form : Form) (s : Set) (letters : List ℕ) (number z2 kappa list total : ℕ) where
   built-at : letters ≡ lettersOf form → number ≡ setNumberOf s → z2 ≡ z2OffsetOf form → kappa ≡ kappaOf s → list ≡ listOffsetOf form → total ≡ totalOf form s
-      → built letters number z2 kappa list total ≡ headerOf form s
+      → built letters number z2 kappa list total ≡ fieldsOf form s
   built-at a b c d e f = rw (a, b, c, d, e, f) (built-is form s)
 
 letters-requires : tie.Need-letters-requires
 letters-requires c κs = search needs
 
-array-read-header : tie.Need-array-read-header
-array-read-header c = search needs
+array-read-fields : tie.Need-array-read-fields
+array-read-fields c = search needs
 
-array-write-header : tie.Need-array-write-header
-array-write-header c = search needs
+array-write-fields : tie.Need-array-write-fields
+array-write-fields c = search needs
 
-array-read-header-2 : tie.Need-array-read-header-2
-array-read-header-2 c = search needs
+array-read-fields-2 : tie.Need-array-read-fields-2
+array-read-fields-2 c = search needs
 
-array-write-header-2 : tie.Need-array-write-header-2
-array-write-header-2 c = search needs
+array-write-fields-2 : tie.Need-array-write-fields-2
+array-write-fields-2 c = search needs
 
-array-read-header-3 : tie.Need-array-read-header-3
-array-read-header-3 c = search needs
+array-read-fields-3 : tie.Need-array-read-fields-3
+array-read-fields-3 c = search needs
 
-array-write-header-3 : tie.Need-array-write-header-3
-array-write-header-3 c = search needs
+array-write-fields-3 : tie.Need-array-write-fields-3
+array-write-fields-3 c = search needs
 
-array-read-header-4 : tie.Need-array-read-header-4
-array-read-header-4 c = search needs
+array-read-fields-4 : tie.Need-array-read-fields-4
+array-read-fields-4 c = search needs
 
-array-write-header-4 : tie.Need-array-write-header-4
-array-write-header-4 c = search needs
+array-write-fields-4 : tie.Need-array-write-fields-4
+array-write-fields-4 c = search needs
 
 number-requires : tie.Need-number-requires
 number-requires c κs = search needs
 
-cast-header : tie.Need-cast-header
-cast-header c = search (needs, number-fits)
+cast-fields : tie.Need-cast-fields
+cast-fields c = search (needs, number-fits)
 
-array-write-header-5 : tie.Need-array-write-header-5
-array-write-header-5 c = search needs
+array-write-fields-5 : tie.Need-array-write-fields-5
+array-write-fields-5 c = search needs
 
 slice-aggregate-put-number : tie.Need-slice-aggregate-put-number
 slice-aggregate-put-number c = search needs
@@ -189,22 +189,22 @@ returns c =
     ∙ built-at (l .before .args .form) (l .before .args .s) _ _ _ _ _ _ (l .letters .ensures) (n .number .ensures) (p4 .before .z2-offset .ensures) (p5 .before .kappa .ensures)
     (p6 .before .list-offset .ensures) (p7 .before .total .ensures)
 
-pub header-of-spec : {M : Type 1} → statement M
-header-of-spec =
+pub fields-of-spec : {M : Type 1} → statement M
+fields-of-spec =
     tie.close
     (tie.spec
     letters-requires
-    array-read-header
-    array-write-header
-    array-read-header-2
-    array-write-header-2
-    array-read-header-3
-    array-write-header-3
-    array-read-header-4
-    array-write-header-4
+    array-read-fields
+    array-write-fields
+    array-read-fields-2
+    array-write-fields-2
+    array-read-fields-3
+    array-write-fields-3
+    array-read-fields-4
+    array-write-fields-4
     number-requires
-    cast-header
-    array-write-header-5
+    cast-fields
+    array-write-fields-5
     slice-aggregate-put-number
     cast-put-number
     put-number-requires
