@@ -1,5 +1,5 @@
 -- From what a call leaves behind to what its export does. Assumes nothing.
-use mathlib.Core.Path.{_≡_, ap, _∙_}
+use mathlib.Core.Path.{_≡_, ap, ap₂, _∙_}
 use mathlib.Core.Bool.{cond}
 use mathlib.Core.List.{List}
 use Prim.Native.Nat.{ℕ, _+_, _-_}
@@ -10,7 +10,7 @@ use lib.ListN.{length}
 use borrow.Author.Needs.{needs}
 use Rattle.answers.specs.declared.Outcome.{Outcome}
 use Rattle.answers.specs.declared.Outcome.the-variants.{Done, HeaderMalformed}
-use Rattle.answers.specs.Outcomes.{Filled, filled}
+use Rattle.answers.specs.Outcomes.{numberOf, placeOf, Filled, filled}
 use Rattle.commitment.specs.Commitment.{WithRests, withRests}
 use Rattle.signing.specs.Response.{Responded, responded}
 use Rattle.record_forms.specs.declared.Form.the-variants.{Plain}
@@ -24,6 +24,10 @@ use Rattle.bursztok.specs.declared.Response.{Response}
 use Rattle.bursztok.specs.declared.Reading.{Reading}
 use Rattle.bursztok.specs.declared.Part.{Part}
 use Rattle.bursztok.specs.Exports.{answerOf, left, leftBy, leftWithRests, leftWithRestsBy, responseWith, replied, repliedBy, readingWith, stored, storedBy, located, locatedBy, partAt}
+
+-- a reading is its fields, each in its place
+pub reading-at : (o : Outcome) (n p set key : ℕ) → n ≡ numberOf o → p ≡ placeOf o → record { number = n; place = p; set = set; key = key } ≡ readingWith o set key
+reading-at o n p set key e f = ap₂ (λ (x y : ℕ). record { number = x; place = y; set = set; key = key }) e f
 
 pub answer-at : (r : Answer) (o w : Outcome) → r ≡ answerOf o → o ≡ w → r ≡ answerOf w
 answer-at r o w p e = p ∙ ap answerOf e
