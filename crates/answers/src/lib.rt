@@ -1,4 +1,6 @@
 // The answers of all calls, with the paper's number and place for each (01, "Numbers that come back"; 15 is of 02, C-12).
+#![tactic(auto)]
+
 pub mod sizes;
 
 ghost use Rattle.std.specs.Prelude.{◌≡◌};

@@ -1,4 +1,6 @@
 // Numbers as bytes, the low byte first, and sections of entries one after the other (01, "The record").
+#![tactic(auto)]
+
 ghost use Rattle.std.specs.Prelude.{◌≡◌, map, ◌+◌, ◌*◌, ◌/◌, ◌%◌, ◌<◌, length, get_or, set};
 ghost use Rattle.byte_codes.specs.Bytes.{bytes_of, number_in, packed, unpacked, complement, from_complement};
 

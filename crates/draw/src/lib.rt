@@ -1,4 +1,6 @@
 // The draw of the response (01, "The draw"). A position is that of the next word, and so also the count of the words taken before it.
+#![tactic(auto)]
+
 ghost use Rattle.std.specs.Prelude.{◌≡◌, ◌<◌, ◌≤◌, length};
 ghost use Rattle.sets.specs.Numbers.{places};
 ghost use Rattle.draw.specs.Draw.{is_set, trial_of, from_step2, walk_of, taken_of};

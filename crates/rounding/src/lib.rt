@@ -3,6 +3,8 @@
 // So what is rounded has to be below 24578, by a `requires`.
 // A set's d and p are asked once, by the caller, and not in its loop: the compiler vectorises no loop that has a `match` in it. The set itself is lent for the
 // contracts.
+#![tactic(auto)]
+
 ghost use Rattle.std.specs.Prelude.{◌≡◌, ◌+◌, ◌*◌, ◌^◌, ◌<◌, pos, nat_abs, ◌+ℤ◌, ◌-ℤ◌};
 ghost use Rattle.laws.specs.Integers.{residue};
 ghost use Rattle.sets.specs.Numbers.{twice_modulus, d_of, p_of};

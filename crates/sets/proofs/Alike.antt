@@ -18,7 +18,7 @@ use Rattle.sets.specs.Numbers.{dimension, twice_modulus, mask_limit, list_limit,
 -- a set's number stands for the set: so each is among all of them, and nothing else goes by cases
 pub named_back : (s : Set) → named_of (set_number_of s) ≡ Known s
 unfolding named_of numbered
-named_back s = elim s [ I ↦ refl | II ↦ refl | III ↦ refl | IV ↦ refl | «V» ↦ refl | VI ↦ refl | VII ↦ refl | VIII ↦ refl ]
+named_back s = elim s as (λ k. named_of (set_number_of k) ≡ Known k) [ I ↦ refl | II ↦ refl | III ↦ refl | IV ↦ refl | «V» ↦ refl | VI ↦ refl | VII ↦ refl | VIII ↦ refl ]
 
 -- whether a test holds of all of some sets
 abbrev throughout : List Set → (Set → Bool) → Bool

@@ -1,8 +1,10 @@
 // The parameter sets: the numbers of a set are asked of the set and stand nowhere else (01, "Parameters").
+#![tactic(auto)]
+
 ghost use Rattle.std.specs.Prelude.{◌≡◌, ◌^◌};
 ghost use Rattle.sets.specs.Numbers.{kappa_of, like_of, d_of, p_of, largest_of, bound_squared_of, key_limit_of, ones_of, twos_of, set_number_of, named_of, asked_of, default_one};
 
-#[derive(Drop)]
+#[derive(Clone, Copy)]
 pub enum Set {
     I,
     II,
@@ -15,7 +17,7 @@ pub enum Set {
 }
 
 // The rows of the table of 01, which sets I to IV are: the other sets are each like one of them (02, C-22).
-#[derive(Drop)]
+#[derive(Clone, Copy)]
 pub enum Row {
     First,
     Second,
@@ -24,7 +26,7 @@ pub enum Row {
 }
 
 // The set that a number stands for, where there is one.
-#[derive(Drop)]
+#[derive(Clone, Copy)]
 pub enum Asked {
     Known(Set),
     Unknown,
@@ -189,6 +191,7 @@ impl Set {
     }
 
     // The set of that number.
+    #[tactic(auto, unfolding(crate::specs::Numbers::named_of, crate::specs::Numbers::numbered))]
     pub fn named(number: u32) -> Asked
         ensures { result ≡ named_of number }
     {
@@ -206,6 +209,7 @@ impl Set {
     }
 
     // The set that a number stands for on a call: 0 stands for set 4 (02, C-17).
+    #[tactic(auto, unfolding(crate::specs::Numbers::asked_of))]
     pub fn asked(number: u32) -> Asked
         ensures { result ≡ asked_of number }
     {
@@ -217,6 +221,7 @@ impl Set {
     }
 
     // The number that a call which keeps the old default asks for: 0 becomes 1 (02, C-17).
+    #[tactic(auto, unfolding(crate::specs::Numbers::default_one))]
     pub fn default_one(number: u32) -> u32
         ensures { result ≡ default_one number }
     {

@@ -1,6 +1,8 @@
 // Vectors of whole numbers, and the form of a challenge list (01, "Key, commitment, response, rebuild").
 // A vector of bytes is widened first: everything else is for i16 alone. Sums and copies are loops with a fixed count and no branch, range tests loops that
 // are not left early, which the compiler turns into instructions on several entries at a time.
+#![tactic(auto)]
+
 ghost use Rattle.std.specs.Prelude.{◌≡◌, true, ◌&&◌, map, ℕ, ◌+◌, ◌*◌, ◌^◌, ◌<◌, pos, neg_ℤ, nat_abs, ◌+ℤ◌, ◌-ℤ◌, ◌*ℤ◌, length, get_or};
 ghost use Rattle.laws.specs.Lists.{every, zip_with};
 ghost use Rattle.sets.specs.Numbers.{dimension};
