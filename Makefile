@@ -13,7 +13,7 @@ LIBRARY = target/staticlib/libbursztok.a
 SHARED = target/shared
 # The library links into x86-64 programs only. On another machine host/ asks a bridge that has it linked and runs under an emulator.
 BRIDGE = $(shell tools/x86-64 here || echo target/staticlib/bridge)
-SOURCES = $(shell find crates -name '*.rt' -o -name '*.antt')
+SOURCES = $(shell find crates -name out -prune -o \( -name '*.rt' -o -name '*.antt' \) -print)
 VERSION = $(shell sed -n 's/^.define BURSZTOK_VERSION "\(.*\)"$$/\1/p' include/bursztok.h)
 CARGO = cd host && cargo
 RUN = $(CARGO) run --quiet --release --offline --bin
@@ -28,7 +28,7 @@ test: ## proves every crate and tries the library; the last line is 'N passed, 0
 	@tools/test
 
 check: toolchain ## proves what has changed since the last check
-	@"$(RT)" check | tools/progress
+	@"$(RT)" all check | tools/progress
 
 lib: library ## makes target/staticlib/libbursztok.a; its header is include/bursztok.h
 	@echo "$(LIBRARY) is made; link with: cc -I include PROGRAM.c $(LIBRARY)"
@@ -36,9 +36,8 @@ lib: library ## makes target/staticlib/libbursztok.a; its header is include/burs
 library: toolchain $(LIBRARY) $(BRIDGE)
 
 $(LIBRARY): crates.txt $(SOURCES)
-	@echo "proving what has changed and building $(LIBRARY) (4 to 5 minutes the first time on two cores)"
-	@mkdir -p target/log
-	@"$(RT)" staticlib bursztok 2>&1 | tee target/log/library.log | tools/progress --brief bursztok || { tail -n 30 target/log/library.log; exit 1; }
+	@echo "proving what has changed and building $(LIBRARY) (some minutes the first time)"
+	@tools/library $(LIBRARY)
 
 target/staticlib/bridge: $(LIBRARY) host/bindings/bridge.c include/bursztok.h
 	@tools/x86-64 compile $@ host/bindings/bridge.c $(LIBRARY)
@@ -72,7 +71,7 @@ stack: library ## the stack that each call takes, beside the header's figures
 bench: cargo library ## calls a second beside the second program; instructions by callgrind beside their bars (on x86-64)
 	@tools/x86-64 here || { echo "not an x86-64 machine: the library runs under an emulator here, and what is measured would say nothing"; exit 1; }
 	@$(RUN) bursztok-bench
-	@"$(RT)" check ring_bench choices_bench
+	@tools/programs target/bin ring_bench choices_bench
 	@$(RUN) bursztok-bench -- --bars ../target/bin
 
 soak: cargo library ## random cases of the library against the second program for TIME seconds
@@ -93,7 +92,7 @@ install: desk ## copies archive, header, pkg-config file, tool, man page and com
 	@echo "installed in $(DESTDIR)$(PREFIX): pkg-config --cflags --libs bursztok"
 
 clean: ## removes all that was made, what is proved too
-	@rm -rf target host/target
+	@rm -rf target host/target crates/*/out
 
 cargo:
 	@command -v cargo >/dev/null || { echo "cargo is not found: what is in host/ is Rust"; exit 1; }

@@ -1,4 +1,6 @@
-// The C library: each export is its call, with the answer as numbers. include/bursztok.h declares the same names for C.
+// The calls as C has them, with the answer as numbers: the crate `bursztok_c` exports each, and include/bursztok.h declares them.
+#![tactic(auto)]
+
 ghost use Rattle.std.specs.Prelude.{◌≡◌, length};
 ghost use Rattle.answers.specs.Sizes.{kappa_asked};
 ghost use Rattle.keys.specs.Key.{key_test};
@@ -17,7 +19,7 @@ use answers::Outcome;
 use record_forms::{Form, LIST_OFFSET, Z1_OFFSET, Z2_OFFSET};
 
 #[repr(C)]
-#[derive(Drop)]
+#[derive(Clone, Copy)]
 pub struct Answer {
     pub number: u32,
     pub place: u32,
@@ -25,7 +27,7 @@ pub struct Answer {
 
 // With the count of words that the draw took, and the key number: 0 when the response refuses (02, C-13).
 #[repr(C)]
-#[derive(Drop)]
+#[derive(Clone, Copy)]
 pub struct Response {
     pub number: u32,
     pub place: u32,
@@ -35,7 +37,7 @@ pub struct Response {
 
 // The set and the key number are 0 when the reader refuses.
 #[repr(C)]
-#[derive(Drop)]
+#[derive(Clone, Copy)]
 pub struct Reading {
     pub number: u32,
     pub place: u32,
@@ -45,21 +47,19 @@ pub struct Reading {
 
 // A part of the lent record.
 #[repr(C)]
-#[derive(Drop)]
+#[derive(Clone, Copy)]
 pub struct Part {
     pub start: u64,
     pub length: u64,
 }
 
-#[unsafe(no_mangle)]
-pub extern "C" fn bursztok_key_test(set: u32, f: &[i8], g: &[i8], a: &[u16]) -> Answer
+pub fn bursztok_key_test(set: u32, f: &[i8], g: &[i8], a: &[u16]) -> Answer
     ensures { result ≡ answer_of (key_test set f.now g.now a.now) }
 {
     answered(keys::key_test(set, f, g, a))
 }
 
-#[unsafe(no_mangle)]
-pub extern "C" fn bursztok_commitment(
+pub fn bursztok_commitment(
     set: u32,
     a: &[u16],
     y1: &[i16],
@@ -71,8 +71,7 @@ pub extern "C" fn bursztok_commitment(
     answered(commitment::commitment(set, a, y1, y2, out))
 }
 
-#[unsafe(no_mangle)]
-pub extern "C" fn bursztok_commitment_with_rests(
+pub fn bursztok_commitment_with_rests(
     set: u32,
     a: &[u16],
     y1: &[i16],
@@ -86,8 +85,7 @@ pub extern "C" fn bursztok_commitment_with_rests(
     answered(commitment::commitment_with_rests(set, a, y1, y2, out, rests))
 }
 
-#[unsafe(no_mangle)]
-pub extern "C" fn bursztok_respond(
+pub fn bursztok_respond(
     set: u32,
     key: u32,
     f: &[i8],
@@ -122,8 +120,7 @@ pub extern "C" fn bursztok_respond(
     ))
 }
 
-#[unsafe(no_mangle)]
-pub extern "C" fn bursztok_rebuild(
+pub fn bursztok_rebuild(
     set: u32,
     a: &[u16],
     z1: &[i16],
@@ -136,16 +133,14 @@ pub extern "C" fn bursztok_rebuild(
     answered(checking::rebuild(set, a, z1, z2, list, out))
 }
 
-#[unsafe(no_mangle)]
-pub extern "C" fn bursztok_compare(set: u32, claimed: &[u16], hashed: &[u16]) -> Answer
+pub fn bursztok_compare(set: u32, claimed: &[u16], hashed: &[u16]) -> Answer
     ensures { result ≡ answer_of (comparison set claimed.now hashed.now) }
 {
     answered(checking::comparison(set, claimed, hashed))
 }
 
 // The rebuild and the comparison that keep the old default: 0 stands for set 1 (02, C-17).
-#[unsafe(no_mangle)]
-pub extern "C" fn bursztok_rebuild_default_one(
+pub fn bursztok_rebuild_default_one(
     set: u32,
     a: &[u16],
     z1: &[i16],
@@ -158,15 +153,13 @@ pub extern "C" fn bursztok_rebuild_default_one(
     answered(checking::rebuild_default_one(set, a, z1, z2, list, out))
 }
 
-#[unsafe(no_mangle)]
-pub extern "C" fn bursztok_compare_default_one(set: u32, claimed: &[u16], hashed: &[u16]) -> Answer
+pub fn bursztok_compare_default_one(set: u32, claimed: &[u16], hashed: &[u16]) -> Answer
     ensures { result ≡ answer_of (comparison_default_one set claimed.now hashed.now) }
 {
     answered(checking::comparison_default_one(set, claimed, hashed))
 }
 
-#[unsafe(no_mangle)]
-pub extern "C" fn bursztok_write(
+pub fn bursztok_write(
     set: u32,
     key: u32,
     z1: &[i16],
@@ -179,8 +172,7 @@ pub extern "C" fn bursztok_write(
     answered(records::write(Form::Plain, set, key, z1, z2, list, out))
 }
 
-#[unsafe(no_mangle)]
-pub extern "C" fn bursztok_read(
+pub fn bursztok_read(
     rec: &[u8],
     z1: &mut [i16],
     z2: &mut [i8],
@@ -192,8 +184,7 @@ pub extern "C" fn bursztok_read(
 }
 
 // The packed form, and the conversions to it and from it (02, C-11).
-#[unsafe(no_mangle)]
-pub extern "C" fn bursztok_write_packed(
+pub fn bursztok_write_packed(
     set: u32,
     key: u32,
     z1: &[i16],
@@ -206,8 +197,7 @@ pub extern "C" fn bursztok_write_packed(
     answered(records::write(Form::Packed, set, key, z1, z2, list, out))
 }
 
-#[unsafe(no_mangle)]
-pub extern "C" fn bursztok_read_packed(
+pub fn bursztok_read_packed(
     rec: &[u8],
     z1: &mut [i16],
     z2: &mut [i8],
@@ -218,38 +208,33 @@ pub extern "C" fn bursztok_read_packed(
     read_answer(records::read(Form::Packed, rec, z1, z2, list))
 }
 
-#[unsafe(no_mangle)]
-pub extern "C" fn bursztok_pack(rec: &[u8], out: &mut [u8]) -> Answer
+pub fn bursztok_pack(rec: &[u8], out: &mut [u8]) -> Answer
     ensures { left result out.new ≡ left_by (conversion_of Plain Packed rec.now out.old) }
 {
     answered(records::convert(Form::Plain, Form::Packed, rec, out))
 }
 
-#[unsafe(no_mangle)]
-pub extern "C" fn bursztok_unpack(rec: &[u8], out: &mut [u8]) -> Answer
+pub fn bursztok_unpack(rec: &[u8], out: &mut [u8]) -> Answer
     ensures { left result out.new ≡ left_by (conversion_of Packed Plain rec.now out.old) }
 {
     answered(records::convert(Form::Packed, Form::Plain, rec, out))
 }
 
-#[unsafe(no_mangle)]
-pub extern "C" fn bursztok_z1_section(rec: &[u8], number: &mut u32, place: &mut u32) -> Part
+pub fn bursztok_z1_section(rec: &[u8], number: &mut u32, place: &mut u32) -> Part
     ensures { located result number.new place.new ≡ located_by rec.entry.ref_ptr (z1_section rec.entry.ref_ptr rec.now) }
 {
     let part = records::z1_section(rec, number, place);
     part_at(*number, Z1_OFFSET, part)
 }
 
-#[unsafe(no_mangle)]
-pub extern "C" fn bursztok_z2_section(rec: &[u8], number: &mut u32, place: &mut u32) -> Part
+pub fn bursztok_z2_section(rec: &[u8], number: &mut u32, place: &mut u32) -> Part
     ensures { located result number.new place.new ≡ located_by rec.entry.ref_ptr (z2_section rec.entry.ref_ptr rec.now) }
 {
     let part = records::z2_section(rec, number, place);
     part_at(*number, Z2_OFFSET, part)
 }
 
-#[unsafe(no_mangle)]
-pub extern "C" fn bursztok_list_section(rec: &[u8], number: &mut u32, place: &mut u32) -> Part
+pub fn bursztok_list_section(rec: &[u8], number: &mut u32, place: &mut u32) -> Part
     ensures { located result number.new place.new ≡ located_by rec.entry.ref_ptr (list_section rec.entry.ref_ptr rec.now) }
 {
     let part = records::list_section(rec, number, place);
@@ -307,23 +292,20 @@ fn part_at(number: u32, offset: usize, part: &[u8]) -> Part
 }
 
 // The places of a list of the set that a number asks for; 0 where there is no such set.
-#[unsafe(no_mangle)]
-pub extern "C" fn bursztok_kappa(set: u32) -> u32
+pub fn bursztok_kappa(set: u32) -> u32
     ensures { result ≡ kappa_asked set }
 {
     answers::sizes::kappa(set)
 }
 
 // The bytes of a record of that set, and of a packed one.
-#[unsafe(no_mangle)]
-pub extern "C" fn bursztok_record_bytes(set: u32) -> u32
+pub fn bursztok_record_bytes(set: u32) -> u32
     ensures { result ≡ record_bytes_asked Plain set }
 {
     record_forms::sizes::record_bytes(Form::Plain, set)
 }
 
-#[unsafe(no_mangle)]
-pub extern "C" fn bursztok_packed_bytes(set: u32) -> u32
+pub fn bursztok_packed_bytes(set: u32) -> u32
     ensures { result ≡ record_bytes_asked Packed set }
 {
     record_forms::sizes::record_bytes(Form::Packed, set)
