@@ -6,7 +6,7 @@ pub mod sizes;
 ghost use Rattle.std.specs.Prelude.{◌≡◌};
 ghost use Rattle.answers.specs.Outcomes.{number_of, place_of, is_done, key_with};
 
-#[derive(Drop)]
+#[derive(Clone, Copy)]
 pub enum Outcome {
     Done,
     UnknownSet,
