@@ -1,23 +1,26 @@
 // Signer and checker. A line for each case: what is lent, the number that the response answers, the words that it took and the key number that comes back; where a
 // signature is given out, what `accepts` says of its record, plain, sent packed, packed and unpacked again, and the key number that is read from it. Then records,
 // keys and vectors that were changed.
+#![tactic(auto)]
+
 ghost use Rattle.std.specs.Prelude.{◌≡◌, length};
 ghost use Rattle.sets.specs.Numbers.{dimension};
 ghost use Rattle.record_forms.specs.declared.Form.TheVariants.{Plain};
 ghost use Rattle.record_forms.specs.Forms.{record_limit_of};
 
 use lending::{first_bytes, first_long, first_whole, rows};
-use libc::STDOUT_FILENO;
 use record_forms::Form;
 use sets::{Asked, Set};
 use signing::Response;
+
+const STDOUT: i32 = 1;
 
 // The key number that is lent. Its bytes are 16, 32, 48, 64.
 const KEY: u32 = 1076895760;
 
 // What is lent: a set and the set whose list it is, kappa places from 0 on; a key of that set's counts, f turned at odd places, g too where `turned` says so, and
 // a = (2g + 1) / f, so much more at place 5; every coefficient of each mask; the sign bit; every threshold; the count of words, all 0.
-#[derive(Drop)]
+#[derive(Clone, Copy)]
 struct Case {
     set: u32,
     list_of: u32,
@@ -325,7 +328,7 @@ fn public_key(c: Case) -> [u16; Set::DIMENSION]
     let f = first(c);
     let g = second(c);
     let mut a = test_keys::public_key(&f, &g);
-    a[5] = std::num::wrapping_add_u16(a[5], c.more);
+    a[5] = a[5].wrapping_add(c.more);
     a
 }
 
@@ -485,7 +488,7 @@ fn more(text: &[u8], a: &[u16], rec: &[u8], total: usize, committed: &[u16], at:
 // A byte more by a number, modulo 256.
 fn raise(bytes: &mut [u8], at: usize, by: u8) {
     if at < bytes.len() {
-        bytes[at] = std::num::wrapping_add_u8(bytes[at], by);
+        bytes[at] = bytes[at].wrapping_add(by);
     }
 }
 
@@ -532,9 +535,9 @@ fn asked(text: &[u8], a: &[u16], rec: &[u8], committed: &[u16]) {
 
 fn number(text: &[u8], n: u64) {
     print(text);
-    io::print_decimal(STDOUT_FILENO, n);
+    io::print_decimal(STDOUT, n);
 }
 
 fn print(text: &[u8]) {
-    io::write_all(STDOUT_FILENO, text);
+    io::write_all(STDOUT, text);
 }

@@ -1,6 +1,8 @@
 // The reference points of 01, what it says has been got wrong, and bad input, of the commitment through the library, and below each case of the commitment with
 // rests (02, C-20) on the same input: a line a case, with the number and the output vectors, that of the digits as runs of equal entries. A refusal leaves a vector
 // as it came.
+#![tactic(auto)]
+
 use lending::show;
 use sets::Set;
 

@@ -1,4 +1,6 @@
 // For the programs that try the library: its calls on the first entries of rows, rows that cases are made of, and what a case prints.
+#![tactic(auto)]
+
 pub mod rows;
 pub mod show;
 

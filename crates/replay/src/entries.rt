@@ -6,7 +6,7 @@ use vector_slots::wanted::Asked;
 use vector_slots::{slots, wanted};
 
 // What an entry's head says.
-#[derive(Drop)]
+#[derive(Clone, Copy)]
 struct Head {
     what: u8,
     which: u8,
@@ -16,13 +16,14 @@ struct Head {
 }
 
 // All entries, as many as the file states, and then the counts. A file from before key numbers has calls of 28 bytes, which end before them.
-pub fn replay(fd: i32, before: bool) {
+pub fn replay(file: &[u8], before: bool) {
+    let mut at = 0;
     let mut memory = [0u8; slots::BYTES];
     let mut counts = [0u32; tally::COUNTS];
     let mut said = [0u32; 6];
-    let mut left = stated(fd, before);
+    let mut left = stated(file, &mut at, before);
     while 0 < left {
-        if !entry(fd, before, &mut memory, &mut counts, &mut said) {
+        if !entry(file, &mut at, before, &mut memory, &mut counts, &mut said) {
             tally::text(b"the file is not as its format says\n");
             return;
         }
@@ -33,9 +34,9 @@ pub fn replay(fd: i32, before: bool) {
 }
 
 // The number of entries; 0 where the letters are not those of the file.
-fn stated(fd: i32, before: bool) -> u32 {
+fn stated(file: &[u8], at: &mut usize, before: bool) -> u32 {
     let mut bytes = [0u8; 16];
-    let got = io::read_full(fd, &mut bytes);
+    let got = read_full(file, at, &mut bytes);
     if got != 16 {
         return 0;
     }
@@ -43,6 +44,20 @@ fn stated(fd: i32, before: bool) -> u32 {
         return 0;
     }
     byte_codes::number32_in(&bytes[8..12])
+}
+
+// The next bytes of the file, as many as the buffer holds or the file still has: how many.
+fn read_full(file: &[u8], at: &mut usize, buf: &mut [u8]) -> usize {
+    let mut got = 0;
+    while got < buf.len() {
+        if file.len() <= *at {
+            return got;
+        }
+        buf[got] = file[*at];
+        *at += 1;
+        got += 1;
+    }
+    got
 }
 
 fn letters(before: bool) -> [u8; 8]
@@ -65,11 +80,11 @@ fn opens(bytes: &[u8], letters: &[u8]) -> bool
 }
 
 // One entry: a load, a patch or a call. False where it is none.
-fn entry(fd: i32, before: bool, memory: &mut [u8], counts: &mut [u32], said: &mut [u32]) -> bool
+fn entry(file: &[u8], at: &mut usize, before: bool, memory: &mut [u8], counts: &mut [u32], said: &mut [u32]) -> bool
     requires { (length memory.old ≡ 38912) × (length counts.old ≡ 288) }
 {
     let mut bytes = [0u8; 8];
-    let got = io::read_full(fd, &mut bytes);
+    let got = read_full(file, at, &mut bytes);
     if got != 8 {
         return false;
     }
@@ -81,13 +96,13 @@ fn entry(fd: i32, before: bool, memory: &mut [u8], counts: &mut [u32], said: &mu
         count: byte_codes::number_at(&bytes, 6),
     };
     if h.what == 3 {
-        return called(fd, before, h.which, memory, counts, said);
+        return called(file, at, before, h.which, memory, counts, said);
     }
-    load(fd, h, memory)
+    load(file, at, h, memory)
 }
 
 // The elements go to the slot's bytes, and a load sets the slot's length.
-fn load(fd: i32, h: Head, memory: &mut [u8]) -> bool
+fn load(file: &[u8], at: &mut usize, h: Head, memory: &mut [u8]) -> bool
     requires { length memory.old ≡ 38912 }
 {
     let slot = h.which as usize;
@@ -104,14 +119,14 @@ fn load(fd: i32, h: Head, memory: &mut [u8]) -> bool
     }
     let begin = slots::ROOM * slot + from;
     let end = begin + count;
-    let got = io::read_full(fd, &mut memory[begin..end]);
+    let got = read_full(file, at, &mut memory[begin..end]);
     if h.what != 1 {
         return got == count;
     }
     byte_codes::put_number(
         memory,
         2 * slot,
-        std::num::wrapping_add_u16(h.start, h.count),
+        h.start.wrapping_add(h.count),
     );
     got == count
 }
@@ -134,7 +149,7 @@ fn scaled(width: u8, count: u16) -> usize
 }
 
 fn called(
-    fd: i32,
+    file: &[u8], at: &mut usize,
     before: bool,
     which: u8,
     memory: &[u8],
@@ -144,7 +159,7 @@ fn called(
     requires { (length memory.now ≡ 38912) × (length counts.old ≡ 288) }
 {
     let mut bytes = [0u8; 36];
-    if !is_call(fd, before, &mut bytes) {
+    if !is_call(file, at, before, &mut bytes) {
         return false;
     }
     let k = wanted::asked_in(&bytes);
@@ -158,14 +173,14 @@ fn called(
 }
 
 // The bytes of a call; those from before key numbers end where the numbers would stand.
-fn is_call(fd: i32, before: bool, bytes: &mut [u8]) -> bool
+fn is_call(file: &[u8], at: &mut usize, before: bool, bytes: &mut [u8]) -> bool
     requires { length bytes.old ≡ 36 }
 {
     if before {
-        let got = io::read_full(fd, &mut bytes[..28]);
+        let got = read_full(file, at, &mut bytes[..28]);
         return got == 28;
     }
-    let got = io::read_full(fd, bytes);
+    let got = read_full(file, at, bytes);
     got == 36
 }
 

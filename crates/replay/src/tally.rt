@@ -2,14 +2,14 @@
 // wanted 13 at 20 at 1.
 ghost use Rattle.std.specs.Prelude.{◌≡◌, ◌<◌, length};
 
-use libc::STDOUT_FILENO;
+const STDOUT: i32 = 1;
 
 pub const COUNTS: usize = 288;
 
 pub fn add(counts: &mut [u32], at: usize)
     requires { (length counts.old ≡ 288) × (at < 288) }
 {
-    counts[at] = std::num::wrapping_add_u32(counts[at], 1);
+    counts[at] = counts[at].wrapping_add(1);
 }
 
 pub fn print(counts: &[u32])
@@ -18,7 +18,7 @@ pub fn print(counts: &[u32])
     no_longer(counts[1]);
     let mut sum: u64 = 0;
     for i in 16..288 {
-        sum = std::num::wrapping_add_u64(sum, line(i, counts[i]));
+        sum = sum.wrapping_add(line(i, counts[i]));
     }
     number(sum);
     text(b" passed, ");
@@ -81,9 +81,9 @@ fn wide(n: u32) -> u64 {
 }
 
 pub fn number(n: u64) {
-    io::print_decimal(STDOUT_FILENO, n);
+    io::print_decimal(STDOUT, n);
 }
 
 pub fn text(t: &[u8]) {
-    io::write_all(STDOUT_FILENO, t);
+    io::write_all(STDOUT, t);
 }

@@ -180,7 +180,7 @@ fn changed(text: &[u8], at: usize, f_at: i8, g_at: i8, more: u16)
     let mut a = test_keys::public_key(&f, &g);
     f[at] = f_at;
     g[at] = g_at;
-    a[at] = std::num::wrapping_add_u16(a[at], more);
+    a[at] = a[at].wrapping_add(more);
     show::answer(text, bursztok_key_test(1, &f, &g, &a));
 }
 

@@ -8,7 +8,7 @@ use test_keys::Shape;
 
 // What is lent beside masks of 0: the set; the number of the set whose list it is, kappa places from 0 on; f and g, with a = (2g + 1) / f, and so much more at
 // place 511; y1 at place 511; the sign bit; every threshold; the count of words, all 0 but the one at `odd` and the next.
-#[derive(Drop)]
+#[derive(Clone, Copy)]
 struct Case {
     set: u32,
     list_of: u32,
@@ -244,7 +244,7 @@ fn responded(c: Case, z1: &mut [i16], z2: &mut [i8]) -> Response {
     let list = lending::first_whole(&places, kappa);
     let thresholds = [c.threshold; Set::PLACES];
     let words = words_of(c.odd);
-    a[511] = std::num::wrapping_add_u16(a[511], c.more);
+    a[511] = a[511].wrapping_add(c.more);
     let mask = c.mask;
     y1[511] = mask;
     bursztok::bursztok_respond(

@@ -1,4 +1,6 @@
 // For the program replay: the calls on the slots, and whether each answers and leaves behind what is wanted.
+#![tactic(auto)]
+
 ghost use Rattle.std.specs.Prelude.{◌≡◌, ◌<◌, length};
 
 use bursztok::{Answer, Part, Reading, Response};
@@ -296,7 +298,7 @@ fn as_sent(form: Form, key: u32, a: &[u16], rec: &[u8], committed: &[u16], said:
 // The first byte of z1 more by 1.
 fn change(rec: &mut [u8]) {
     if 24 < rec.len() {
-        rec[24] = std::num::wrapping_add_u8(rec[24], 1);
+        rec[24] = rec[24].wrapping_add(1);
     }
 }
 
@@ -311,7 +313,7 @@ fn count(said: &mut [u32], answer: bool, yes: usize, no: usize) {
 
 fn add(said: &mut [u32], at: usize) {
     if at < said.len() {
-        said[at] = std::num::wrapping_add_u32(said[at], 1);
+        said[at] = said[at].wrapping_add(1);
     }
 }
 
