@@ -8,7 +8,7 @@ ghost use Rattle.draw.specs.Draw.{is_set, trial_of, from_step2, walk_of, taken_o
 use sets::Set;
 
 // How a trial ends: with the next position, or because it needed a word and none was left.
-#[derive(Drop)]
+#[derive(Clone, Copy)]
 enum Trial {
     Success(usize),
     Failure(usize),
@@ -16,7 +16,7 @@ enum Trial {
 }
 
 // How the walk ends: with the words that it took, or because it needed a word and none was left.
-#[derive(Drop)]
+#[derive(Clone, Copy)]
 pub enum Ending {
     Accepted(usize),
     Rejected(usize),
@@ -25,6 +25,7 @@ pub enum Ending {
 
 // The walk. `first` is the number of the first trial, kappa K minus the squared length of v, and `x` that of the others, twice the absolute value of the inner
 // product of z and v.
+#[tactic(auto, using(crate::proofs::Steps::first_within, crate::proofs::Steps::first_succeeds, crate::proofs::Steps::first_fails, crate::proofs::Steps::first_short))]
 pub fn walk(first: u32, x: u32, words: &[u64], thresholds: &[u64]) -> Ending
     requires { length thresholds.now ≡ places }
     ensures { result ≡ walk_of first x words.now thresholds.now }
@@ -48,6 +49,7 @@ pub fn taken(ending: Ending, words: &[u64]) -> usize
 }
 
 // Steps 2 to 4, from a position.
+#[tactic(auto, using(crate::proofs::Trials::failure_past, crate::proofs::Steps::accepts, crate::proofs::Steps::runs_out, crate::proofs::Steps::no_word, crate::proofs::Steps::rejects, crate::proofs::Steps::runs_out_again))]
 fn from_step2(x: u32, words: &[u64], from: usize, thresholds: &[u64]) -> Ending
     requires { (length thresholds.now ≡ places) × (from ≤ length words.now) }
     ensures { result ≡ from_step2 words.now thresholds.now x from }
@@ -79,6 +81,7 @@ fn from_step2(x: u32, words: &[u64], from: usize, thresholds: &[u64]) -> Ending
 }
 
 // A trial of x, from a position.
+#[tactic(auto, using(crate::proofs::Trials::visited, crate::proofs::Trials::clear, crate::proofs::Trials::missing, crate::proofs::Trials::above, crate::proofs::Trials::below))]
 fn attempt(x: u32, words: &[u64], from: usize, thresholds: &[u64]) -> Trial
     requires { length thresholds.now ≡ places }
     ensures { result ≡ trial_of words.now thresholds.now x from }
