@@ -1,8 +1,0 @@
-use Prim.Native.Nat.{◌+◌, ◌-◌, ◌≤◌}
-use borrow.Author.Rules.{rules}
-use Rattle.sets.specs.Numbers.{last_number}
-use Rattle.checking_points.proofs.rebuilds.each_set.Statement.{statement}
-use Rattle.checking_points.proofs.rebuilds.each_set.Tie as tie
-
-pub each-set-spec : {M : Type 1} → statement M
-each-set-spec = tie.close (tie.spec (λ set₀ set. set ≤ last_number + 2) (λ set₀ set. last_number + 2 - set) (λ c. search rules) (λ c κs. search rules) (λ c. search rules) (λ c. search rules) (λ c. search rules) (λ c. search rules))

@@ -1,7 +1,0 @@
-use Rattle.std.proofs.Common.{◌+◌, ◌-◌, ◌≤◌, rules}
-use Rattle.sets.specs.Numbers.{last_number}
-use Rattle.signing_points.proofs.key_tests.each_set.Statement.{statement}
-use Rattle.signing_points.proofs.key_tests.each_set.Tie as tie
-
-pub each-set-spec : {M : Type 1} → statement M
-each-set-spec = tie.close (tie.spec (λ set₀ set. set ≤ last_number + 1) (λ set₀ set. last_number + 1 - set) (λ c. search rules) (λ c κs. search rules) (λ c. search rules) (λ c. search rules) (λ c. search rules) (λ c. search rules))
