@@ -1,6 +1,5 @@
-use mathlib.Core.Path.{◌≡◌}
-use Prim.Native.Nat.{◌-◌}
 use native.Mathlib.Omega.{arith}
+use mathlib.Core.Path.{◌≡◌}
 use lib.IntN.{◌+ℤ◌}
 use lib.ListN.{length}
 use mir.Syntax.{w16}
@@ -8,15 +7,14 @@ use Rattle.laws.proofs.Bounds.{abs_add}
 use Rattle.vectors.proofs.Combine.{combine_more, combine_finish}
 use Rattle.vectors.proofs.add_to.Goals as goal
 
-same : (c : goal.After-v-in-loop-i-1) → length c.args.v.now ≡ length c.args.c.now
-same c = omega arith
-
 pub loop-i-preserved : goal.loop-i-preserved
 loop-i-preserved c =
-    let l = c in (
+    let same : length c.args.v.now ≡ length c.args.c.now = omega arith in (
       omega arith,
-      combine_more ◌+ℤ◌ _ _ (same l) l.loop-i.invariant.1 w16 abs_add (omega arith) (l.requires.2 l.loop-i.i) c.v-1.given c.v-in-loop-i-1.given,
+      combine_more ◌+ℤ◌ c.args.v.now c.args.c.now same c.loop-i.invariant.1 w16 abs_add (omega arith) (c.requires.2 c.loop-i.i) c.v-1.given c.v-in-loop-i-1.given,
     )
 
 pub returns : goal.returns
-returns c = combine_finish ◌+ℤ◌ _ _ (same c) c.loop-i.invariant.1 (omega arith)
+returns c =
+    let same : length c.args.v.now ≡ length c.args.c.now = omega arith in
+    combine_finish ◌+ℤ◌ c.args.v.now c.args.c.now same c.loop-i.invariant.1 (omega arith)

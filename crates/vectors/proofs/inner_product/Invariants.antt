@@ -1,8 +1,6 @@
 use mathlib.Core.Path.{◌≡◌}
 use Prim.Native.Nat.{◌-◌, ◌≤◌}
 use lib.ListN.{take}
-use mir.Syntax.{w32}
-use mir.Val.{to_z}
 use Rattle.sets.specs.Numbers.{dimension}
 use Rattle.vectors.specs.Vectors.{inner}
 use Rattle.vectors.proofs.inner_product.Given as goal

@@ -4,7 +4,7 @@ use Prim.Native.Nat.{ℕ, ◌-◌}
 use native.Mathlib.Omega.{arith}
 use borrow.Rule.Slice.PartMut.{put_mid}
 use lib.IntN.{ℤ}
-use lib.ListN.{length, take, drop, length-drop, drop_of_length-le}
+use lib.ListN.{length, drop, length-drop, drop_of_length-le}
 use lib.Seq.{length-take-le, take_at}
 use Rattle.sets.specs.Numbers.{dimension}
 use Rattle.vectors.proofs.mirror.Goals as goal
@@ -14,17 +14,13 @@ joined h first rest second e =
     ap₂ ◌++◌ (take_at first rest h e)
     (ap (λ (l : List ℤ). second ++ l) (drop_of_length-le (drop h (first ++ rest)) {i = length (first ++ rest) - h} (omega (arith, length-drop h (first ++ rest)))) ∙ append-nil second)
 
-front : (c : goal.After-negate-arg-1) → length (take dimension c.args.out.now) ≡ dimension
-front c = length-take-le dimension c.args.out.now (omega arith)
-
 pub slice_bounds-negate-end-2 : goal.slice_bounds-negate-end-2
-slice_bounds-negate-end-2 c = omega (arith, front c)
+slice_bounds-negate-end-2 c = omega (arith, length-take-le dimension c.args.out.now (omega arith))
 
 pub negate-requires : goal.negate-requires
-negate-requires c = (front c, c.requires.0, c.requires.2)
+negate-requires c = (length-take-le dimension c.args.out.now (omega arith), c.requires.0, c.requires.2)
 
 pub returns : goal.returns
 returns c =
-    let n = c in
-    joined dimension n.negate.new.0 _ c.copy.new.0 (n.negate.auto.0 ∙ front n)
-    ∙ ap₂ ◌++◌ n.negate.ensures c.copy.ensures
+    joined dimension c.negate.new.out _ c.copy.new.out (c.negate.auto.out ∙ length-take-le dimension c.args.out.now (omega arith))
+    ∙ ap₂ ◌++◌ c.negate.ensures c.copy.ensures

@@ -1,9 +1,8 @@
 use mathlib.Core.Path.{◌≡◌}
-use Prim.Native.Nat.{◌-◌}
 use native.Mathlib.Omega.{arith}
 use lib.IntN.{ℤ, pos}
 use lib.ListN.{length, get_or}
-use mir.Syntax.{w8}
+use mir.Syntax.{w8, w16}
 use mir.Val.{SFits}
 use Rattle.laws.proofs.Loops.{more}
 use Rattle.laws.proofs.Machine.{wider_is}
@@ -23,4 +22,4 @@ pub loop-i-preserved : goal.loop-i-preserved
 loop-i-preserved c =
     let l = c in
     let s = l in
-    (omega arith, more s.args.out.now s.args.x.now (same s) l.loop-i.invariant.1 (pos 0) _ (omega arith) (wider_is tt (small c)).back)
+    (omega arith, more s.args.out.now s.args.x.now (same s) l.loop-i.invariant.1 (pos 0) _ (omega arith) (wider_is {w' = w16} tt (small c)).back)
