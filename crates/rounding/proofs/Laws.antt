@@ -16,7 +16,7 @@ use Rattle.sets.specs.declared.Set.{Set}
 use Rattle.sets.specs.Numbers.{d_of, p_of}
 use Rattle.sets.proofs.Alike.{d_at_least_8, step_at_least_256, p_positive, p_even}
 use Rattle.rounding.specs.Rounding.{quotient, upper, rest, half_of, centred}
-use Rattle.rounding.specs.Laws.{nearest, QuotientNearest, QuotientAlone, UpperIsNearest, UpperBelow, RestRange, RestCompletes, RestAlone, is_centred, CentredRange, CentredCongruent, CentredAlone, HalfCentred}
+use Rattle.rounding.specs.Laws.{QuotientNearest, QuotientAlone, UpperIsNearest, UpperBelow, RestRange, RestCompletes, RestAlone, is_centred, CentredRange, CentredCongruent, CentredAlone, HalfCentred}
 
 -- ---- upper digits
 

@@ -13,7 +13,7 @@ ghost use Rattle.rounding.specs.Rounding.{rounded, centred, summed, dagger as da
 use sets::Set;
 
 // The upper digits of a number, and what is left of it.
-#[derive(Drop)]
+#[derive(Clone, Copy)]
 pub struct Rounded {
     pub digits: u32,
     pub rest: i16,

@@ -1,0 +1,34 @@
+use Rattle.std.proofs.Common.{◌≡◌, ℕ, ◌+◌, ◌<◌, ◌≤◌, ℤ, pos, ◌+ℤ◌, ap, ap₂, ◌∙◌, arith}
+use Rattle.laws.specs.Integers.{residue}
+use Rattle.laws.proofs.Machine.{given}
+use Rattle.sets.specs.Numbers.{p_of}
+use Rattle.sets.proofs.Alike.{p_small}
+use Rattle.rounding.specs.Rounding.{upper, restored}
+use Rattle.rounding.proofs.Laws.{upper_below}
+use Rattle.rounding.proofs.Digits.{digits_are, sum_wraps}
+use Rattle.rounding.proofs.restored.Goals.{After-round}
+use Rattle.rounding.proofs.restored.Goals as goal
+
+sizes : (c : After-round) → (c.round.result.digits < c.args.p) × (c.wrap-moved.result < c.args.p) × (c.args.p ≤ 96)
+sizes c =
+    let s = c.args.s in
+    let e = c.requires.1 in
+    (omega (arith, e, digits_are c.round.ensures, upper_below s c.args.w), c.wrap-moved.ensures.1, omega (arith, e, p_small s))
+
+pub overflow_add-round : goal.overflow_add-round
+overflow_add-round c = omega (arith, sizes (goal.at.overflow_add-round c).After-round)
+
+pub wrap-requires : goal.wrap-requires
+wrap-requires c = omega (arith, sizes (goal.at.wrap-requires c).After-round)
+
+pub returns : goal.returns
+unfolding restored
+returns c =
+    let a = c.args in
+    let e = c.requires.1 in
+    let up : pos c.raise.result ≡ a.z +ℤ pos (p_of a.s) =
+    c.raise.ensures.0 ∙ ap₂ (λ (z : ℤ) (p : ℕ). z +ℤ pos p) (given c.ranges.z).back e in
+    c.wrap.ensures.0
+    ∙ ap₂ (λ (x y : ℕ). residue a.p (pos (x + y))) (digits_are c.round.ensures) c.wrap-moved.ensures.0
+    ∙ ap (λ (p : ℕ). residue p (pos (upper a.s a.w + residue p (pos c.raise.result)))) e
+    ∙ sum_wraps a.s (upper a.s a.w) c.raise.result a.z up
