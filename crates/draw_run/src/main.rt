@@ -1,11 +1,14 @@
 // The walk on rows of words that lead through each of its steps. A line for each case: the numbers of the first trial and of the others, the thresholds, the
 // words lent, and then how the walk ended and the count of words taken. 01's reference point is in response_points, where its numbers are computed.
+#![tactic(auto)]
+
 ghost use Rattle.std.specs.Prelude.{◌≡◌, length};
 ghost use Rattle.sets.specs.Numbers.{places};
 
 use draw::Ending;
-use libc::STDOUT_FILENO;
 use sets::Set;
+
+const STDOUT: i32 = 1;
 
 fn main() {
     rounds();
@@ -83,7 +86,7 @@ fn cut_short(first: u32, x: u32, words: &[u64]) {
 fn level(first: u32, x: u32, threshold: u64, words: &[u64]) {
     lent_numbers(first, x);
     print(b"all ");
-    io::print_decimal(STDOUT_FILENO, threshold);
+    io::print_decimal(STDOUT, threshold);
     let thresholds = [threshold; Set::PLACES];
     finish(first, x, words, &thresholds);
 }
@@ -100,9 +103,9 @@ fn ladder(first: u32, x: u32, words: &[u64]) {
 }
 
 fn lent_numbers(first: u32, x: u32) {
-    io::print_decimal(STDOUT_FILENO, first as u64);
+    io::print_decimal(STDOUT, first as u64);
     print(b", then ");
-    io::print_decimal(STDOUT_FILENO, x as u64);
+    io::print_decimal(STDOUT, x as u64);
     print(b"; thresholds ");
 }
 
@@ -117,7 +120,7 @@ fn finish(first: u32, x: u32, words: &[u64], thresholds: &[u64])
         Ending::Rejected(_) => print(b": rejected, "),
         Ending::OutOfWords => print(b": out of words, "),
     }
-    io::print_decimal(STDOUT_FILENO, draw::taken(ending, words) as u64);
+    io::print_decimal(STDOUT, draw::taken(ending, words) as u64);
     print(b"\n");
 }
 
@@ -131,9 +134,9 @@ fn print_row(row: &[u64]) {
 
 fn print_entry(entry: u64) {
     print(b" ");
-    io::print_decimal(STDOUT_FILENO, entry);
+    io::print_decimal(STDOUT, entry);
 }
 
 fn print(text: &[u8]) {
-    io::write_all(STDOUT_FILENO, text);
+    io::write_all(STDOUT, text);
 }
