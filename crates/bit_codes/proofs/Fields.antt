@@ -1,6 +1,6 @@
 -- What the code asks that takes bits out of three digits. Assumes nothing.
 use mathlib.Core.Path.{◌≡◌, ap, ap₂, ◌∙◌}
-use Prim.Native.Nat.{ℕ, ◌+◌, ◌*◌, ◌-◌, ◌/◌, ◌%◌, ◌^◌, ◌<◌, ◌≤◌}
+use Prim.Native.Nat.{ℕ, ◌+◌, ◌*◌, ◌/◌, ◌%◌, ◌^◌, ◌<◌, ◌≤◌}
 use native.Mathlib.Nat.{add_comm, one-mul, lt_of_lt_of_le, mul-le-mul_left, div-lt_iff_lt-mul, mod-lt}
 use native.Mathlib.Omega.{arith}
 use mir.Syntax.{w64}

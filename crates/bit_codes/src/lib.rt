@@ -1,4 +1,6 @@
 // Sections of entries of any width in bits, from 4 to 16, and a reader of them: bits go low first, spare bits are zero (02, C-11).
+#![tactic(auto)]
+
 ghost use Rattle.std.specs.Prelude.{◌≡◌, ℕ, ◌+◌, ◌*◌, ◌/◌, ◌%◌, ◌^◌, ◌<◌, ◌≤◌, length, get_or, map, ltb, pos, nat_abs};
 ghost use Rattle.byte_codes.specs.Bytes.{complement, from_complement};
 ghost use Rattle.bit_codes.specs.Bits.{number, bytes_for, packed_bits, bits_from, entries_from};
@@ -178,7 +180,7 @@ pub fn signed_all_narrow(entries: &[u16], width: usize, out: &mut [i8])
 
 // ---- a reader: it holds a record and its position in it, counted in bits. Thin functions over `unpack_at`.
 
-#[derive(Drop)]
+#[derive(Clone, Copy)]
 pub struct BitReader<'a> {
     pub bytes: &'a [u8],
     pub at: usize,
