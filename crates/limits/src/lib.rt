@@ -1,4 +1,6 @@
 // The length rule (01, "Length rule").
+#![tactic(auto)]
+
 ghost use Rattle.std.specs.Prelude.{◌≡◌, ◌+◌, ◌*◌, ◌^◌, ◌<◌, ◌≤◌, length};
 ghost use Rattle.sets.specs.Numbers.{dimension, d_of};
 ghost use Rattle.answers.specs.declared.Outcome.TheVariants.{Done};
