@@ -73,7 +73,8 @@ the_set set s s' e f = cc
 -- a record of set 4 states it
 states_four : (form : Form) (key : ℕ) (z1 z2 : List ℤ) (l tail : List ℕ) → get_or (record_of form (signature IV key z1 z2 l) ++ tail) 4 0 ≡ 4
 unfolding record_of header_of fields_of bytes_of
-states_four form key z1 z2 l tail = elim form [ Plain ↦ refl | Packed ↦ refl ]
+states_four Plain key z1 z2 l tail = refl
+states_four Packed key z1 z2 l tail = refl
 
 pub default_on_both_sides : DefaultOnBothSides
 default_on_both_sides form key c o count number z1 z2 before old out small e zero lb lo room =
