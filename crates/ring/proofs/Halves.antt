@@ -11,6 +11,7 @@ use Rattle.laws.specs.Lists.{zip_with}
 use Rattle.laws.proofs.Entries.{length-zip_with, get_or-zip_with}
 use Rattle.laws.proofs.Loops as L
 use Rattle.ring.specs.Transform.{Within}
+use Rattle.ring.proofs.Zips.{within_append}
 
 -- ---- a loop over both halves
 
@@ -114,3 +115,6 @@ module _ (h : ℕ) (s m : List ℕ) (two : length s ≡ h + h) (lm : length m �
 
     pub back_two : length (put_mid h (length (m ++ drop h s) - h) (m ++ drop h s) n) ≡ h + h
     back_two = ap length both_back ∙ omega (arith, length-append m n, as_long, ln ∙ ap length second_half, rest_long)
+
+    pub back_within : (b : ℕ) → Within b m → Within b n → Within b (put_mid h (length (m ++ drop h s) - h) (m ++ drop h s) n)
+    back_within b p q = rw both_back (within_append b m n p q)

@@ -1,7 +1,7 @@
 -- One layer of the transform, as the code makes it: the split, and each half by itself. And what the table and the roots hold.
 -- Assumes nothing.
 use mathlib.Core.Path.{◌≡◌, refl, ap, ap₂, sym, ◌∙◌}
-use mathlib.Core.Bool.{Bool, true, ◌&&◌}
+use mathlib.Core.Bool.{true, ◌&&◌}
 use mathlib.Core.List.{List, ◌++◌}
 use Prim.Native.Nat.{ℕ, zero, suc, ◌+◌, ◌*◌, ◌-◌, ◌/◌, ◌<◌, ◌≤◌}
 use native.Mathlib.Decide.{dec_lt}
@@ -81,6 +81,20 @@ aligned_split (suc k) e p o =
     let upper = aligned k (e / 2 + 512) in
     let rest : lower && upper ≡ true = and_right here (lower && upper) o in
     rw d (eqb-true (8 * (e / 2 / 8)) (e / 2) (and_left here (lower && upper) o), and_left lower upper rest, and_right lower upper rest)
+
+-- the roots that it takes, that its second half is made by, and that it is undone by
+module _ (k e : ℕ) (roots : List ℕ) (split : 0 < k) (below : e < 1024) (table : Roots roots) (lined : aligned k e ≡ true) where
+  eighth : 8 * (e / 2 / 8) ≡ e / 2
+  eighth = (aligned_split k e split lined).0
+
+  pub split_root : get_or roots (e / 2 / 8) 0 ≡ power (e / 2)
+  split_root = root_at roots table (e / 2) (omega arith) eighth
+
+  pub second_root : get_or roots ((e / 2 + 512) / 8) 0 ≡ power (e / 2 + 512)
+  second_root = root_at roots table (e / 2 + 512) (omega arith) (omega (arith, eighth))
+
+  pub back_root : get_or roots ((512 - e / 2) / 8) 0 ≡ power (512 - e / 2)
+  back_root = root_at roots table (512 - e / 2) (omega arith) (omega (arith, eighth))
 
 -- ---- sizes
 

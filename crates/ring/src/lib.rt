@@ -1,4 +1,6 @@
 // The product of a public key and a signed vector, modulo 12289 and x^512 + 1 (01, "Ring arithmetic").
+#![tactic(auto)]
+
 mod table;
 
 ghost use Rattle.std.specs.Prelude.{◌≡◌, true, ◌∷◌, ◌++◌, map, ◌+◌, ◌*◌, ◌-◌, ◌/◌, ◌%◌, ◌<◌, ◌≤◌, length, get_or, take, drop};
@@ -290,6 +292,7 @@ fn reduce(s: &mut [u16], c: &[u32])
 
 // ---- sums, differences and products of residues
 
+#[tactic(auto, unfolding(polynomials::specs::Field::add))]
 fn sum(x: u16, y: u16) -> u16
     requires { (x < modulus) × (y < modulus) }
     ensures { result ≡ add x y }
@@ -298,6 +301,7 @@ fn sum(x: u16, y: u16) -> u16
     if s < MODULUS { s } else { s - MODULUS }
 }
 
+#[tactic(auto, unfolding(polynomials::specs::Field::add, polynomials::specs::Field::mul))]
 fn difference(x: u16, y: u16) -> u16
     requires { (x < modulus) × (y < modulus) }
     ensures { result ≡ sub x y }
