@@ -1,8 +1,11 @@
 // Makes 2,000 products, each with the answer before as the key, and writes the last coefficient of the last. The instructions of one product, both of
 // whose operands are transformed, are a 2,000th of those that `valgrind --tool=callgrind` counts of this program.
+#![tactic(auto)]
 
-use libc::STDOUT_FILENO;
 use sets::Set;
+
+// The descriptor of the standard output.
+const STDOUT: i32 = 1;
 
 fn digit(x: u16) -> u8 {
     b'0' + ((x % 10) as u8)
@@ -27,5 +30,5 @@ fn main() {
         digit(x),
         b'\n',
     ];
-    io::write_all(STDOUT_FILENO, &line);
+    io::write_all(STDOUT, &line);
 }

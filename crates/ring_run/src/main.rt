@@ -1,9 +1,13 @@
 // Products by the transform against products made coefficient by coefficient. A line for each case: a number of the one, a number of the other, and
 // whether all coefficients agree.
+#![tactic(auto)]
+
 ghost use Rattle.std.specs.Prelude.{◌≡◌, ◌<◌, ◌≤◌, length};
 
-use libc::STDOUT_FILENO;
 use sets::Set;
+
+// The descriptor of the standard output.
+const STDOUT: i32 = 1;
 
 fn main() {
     constant_case(0, 0);
@@ -56,12 +60,12 @@ fn compare(a: &[u16], z: &[i16])
     ring::key_product(a, z, &mut fast);
     schoolbook(a, z, &mut plain);
     number(&fast);
-    io::write_all(STDOUT_FILENO, b" ");
+    io::write_all(STDOUT, b" ");
     number(&plain);
     if same(&fast, &plain) {
-        io::write_all(STDOUT_FILENO, b" agree\n");
+        io::write_all(STDOUT, b" agree\n");
     } else {
-        io::write_all(STDOUT_FILENO, b" DIFFER\n");
+        io::write_all(STDOUT, b" DIFFER\n");
     }
 }
 
@@ -168,7 +172,7 @@ fn number(s: &[u16])
         digit(x / 10),
         digit(x),
     ];
-    io::write_all(STDOUT_FILENO, &line);
+    io::write_all(STDOUT, &line);
 }
 
 fn wide(x: u16) -> u32
