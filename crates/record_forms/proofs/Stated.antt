@@ -46,11 +46,11 @@ passed {s} place next test = through test (Malformed place) next (States s) (λ 
 -- ---- there
 
 letters_whole : (form : Form) → take 4 (letters_of form) ≡ letters_of form
-letters_whole form = elim form [ Plain ↦ refl | Packed ↦ refl ]
+letters_whole form = elim form as (λ k. take 4 (letters_of k) ≡ letters_of k) [ Plain ↦ refl | Packed ↦ refl ]
 
 opens : (form : Form) (s : Set) → take 4 (fields_of form s) ≡ letters_of form
 unfolding fields_of
-opens form s = elim form [ Plain ↦ refl | Packed ↦ refl ]
+opens form s = elim form as (λ k. take 4 (fields_of k s) ≡ letters_of k) [ Plain ↦ refl | Packed ↦ refl ]
 
 -- a set's number is its own byte
 pub number_byte : (s : Set) → set_number_of s % 256 ≡ set_number_of s
@@ -58,18 +58,18 @@ number_byte s = mod-eq_of_lt (number_small s)
 
 number_at_four : (form : Form) (s : Set) → get_or (fields_of form s) 4 0 ≡ set_number_of s
 unfolding fields_of bytes_of
-number_at_four form s = elim form [ Plain ↦ number_byte s | Packed ↦ number_byte s ]
+number_at_four form s = elim form as (λ k. get_or (fields_of k s) 4 0 ≡ set_number_of s) [ Plain ↦ number_byte s | Packed ↦ number_byte s ]
 
 opens_further : (form : Form) (s : Set) → take 5 (fields_of form s) ≡ letters_of form ++ (set_number_of s ∷ [])
 unfolding fields_of bytes_of
 opens_further form s = further form ∙ ap (λ (n : ℕ). letters_of form ++ (n ∷ [])) (number_byte s)
   where
     further : (form : Form) → take 5 (fields_of form s) ≡ letters_of form ++ (set_number_of s % 256 ∷ [])
-    further form = elim form [ Plain ↦ refl | Packed ↦ refl ]
+    further form = elim form as (λ k. take 5 (fields_of k s) ≡ letters_of k ++ (set_number_of s % 256 ∷ [])) [ Plain ↦ refl | Packed ↦ refl ]
 
 pub fields_long : (form : Form) (s : Set) → length (fields_of form s) ≡ key_offset
 unfolding fields_of bytes_of
-fields_long form s = elim form [ Plain ↦ refl | Packed ↦ refl ]
+fields_long form s = elim form as (λ k. length (fields_of k s) ≡ key_offset) [ Plain ↦ refl | Packed ↦ refl ]
 
 whole : (form : Form) (s : Set) → take key_offset (fields_of form s) ≡ fields_of form s
 whole form s = take_all key_offset (fields_of form s) (le_of_eq (fields_long form s))

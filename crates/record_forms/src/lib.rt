@@ -1,4 +1,6 @@
 // The form of a record, plain (01, "The record") or packed (02, C-11): its header with the key number (02, C-13), and its sections as parts of it.
+#![tactic(auto)]
+
 mod sections;
 pub mod sizes;
 
@@ -33,7 +35,7 @@ pub const RECORD_LIMIT: usize = 1786;
 
 pub const PACKED_LIMIT: usize = 1240;
 
-#[derive(Drop)]
+#[derive(Clone, Copy)]
 pub enum Form {
     Plain,
     Packed,
@@ -95,7 +97,7 @@ impl Form {
 }
 
 // What a record's header says: its set, or the first byte of the first wrong field.
-#[derive(Drop)]
+#[derive(Clone, Copy)]
 pub enum Header {
     States(Set),
     Malformed(u32),
