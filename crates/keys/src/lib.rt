@@ -1,4 +1,6 @@
 // The key test (01, "Key"; 02, C-12). What the response asks of a key is public too: it prepares the same vectors.
+#![tactic(auto)]
+
 ghost use Rattle.std.specs.Prelude.{◌≡◌, true, map, ◌<◌, nat_abs, length};
 ghost use Rattle.laws.specs.Integers.{residue as residueOf};
 ghost use Rattle.laws.specs.Lists.{every, same};
@@ -13,6 +15,7 @@ use answers::Outcome;
 use sets::{Asked, Set};
 
 // The key test: refusals 1, 2, 3, 15, 6. Where the counts are right 7 can't occur, and no length is computed.
+#[tactic(auto, using(answers::proofs::Calls::calls), unfolding(crate::specs::Key::key_test))]
 pub fn key_test(set: u32, f: &[i8], g: &[i8], a: &[u16]) -> Outcome
     ensures { result ≡ key_test set f.now g.now a.now }
 {
@@ -22,6 +25,7 @@ pub fn key_test(set: u32, f: &[i8], g: &[i8], a: &[u16]) -> Outcome
     }
 }
 
+#[tactic(auto, using(laws::proofs::Chain::calls, crate::proofs::Ranges::sized_three))]
 fn key_test_of(s: Set, f: &[i8], g: &[i8], a: &[u16]) -> Outcome
     ensures { result ≡ key_test_of s f.now g.now a.now }
 {
@@ -57,6 +61,7 @@ fn examine(s: Set, f: &[i8], g: &[i8], a: &[u16]) -> Outcome
 }
 
 // Whether f, g and a have their coefficients in range; f and g are widened.
+#[tactic(auto, using(laws::proofs::Chain::calls), unfolding(crate::specs::Key::in_range))]
 pub fn in_range(f: &[i16], g: &[i16], a: &[u16]) -> bool
     ensures { result ≡ in_range f.now g.now a.now }
 {
