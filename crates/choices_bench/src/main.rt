@@ -1,12 +1,15 @@
 // Sixteen sign choices of 39 places each on a fixed key, and the sum of the squared lengths. It is there to be counted:
 // the instructions that `valgrind --tool=callgrind --callgrind-out-file=/dev/null target/bin/choices_bench` collects, by 16.
+#![tactic(auto)]
+
 ghost use Rattle.std.specs.Prelude.{◌≡◌, ◌<◌, ◌≤◌, true, length};
 ghost use Rattle.laws.specs.Lists.{every};
 ghost use Rattle.sets.specs.Numbers.{dimension};
 ghost use Rattle.vectors.specs.Vectors.{within};
 
-use libc::STDOUT_FILENO;
 use sets::Set;
+
+const STDOUT: i32 = 1;
 
 fn main() {
     let mut s1 = [0i16; Set::DIMENSION];
@@ -19,8 +22,8 @@ fn main() {
     if !vectors::all_within(&s2, 5) {
         return;
     }
-    io::print_decimal(STDOUT_FILENO, sum(&s1, &s2));
-    io::write_all(STDOUT_FILENO, b"\n");
+    io::print_decimal(STDOUT, sum(&s1, &s2));
+    io::write_all(STDOUT, b"\n");
 }
 
 // Entries that look drawn.
