@@ -1,4 +1,6 @@
 // The commitment and the commitment with rests (01, "Commitment"; 02, C-20), and the sums that the response and the rebuild round too.
+#![tactic(auto)]
+
 ghost use Rattle.std.specs.Prelude.{◌≡◌, map, length};
 ghost use Rattle.laws.specs.Lists.{zip_with};
 ghost use Rattle.sets.specs.Numbers.{dimension};
@@ -10,6 +12,7 @@ use answers::Outcome;
 use sets::{Asked, Set};
 
 // The commitment: refusals 1, 2, 3, 4.
+#[tactic(auto, unfolding(crate::specs::Commitment::commitment))]
 pub fn commitment(set: u32, a: &[u16], y1: &[i16], y2: &[i16], out: &mut [u16]) -> Outcome
     ensures { filled result out.new ≡ commitmentOf set a.now y1.now y2.now out.old }
 {
@@ -32,6 +35,7 @@ fn commitment_for(s: Set, a: &[u16], y1: &[i16], y2: &[i16], out: &mut [u16]) ->
 }
 
 // The commitment with rests: refusals 1, 2, 3, 4.
+#[tactic(auto, unfolding(crate::specs::Commitment::commitment_with_rests))]
 pub fn commitment_with_rests(
     set: u32,
     a: &[u16],
@@ -68,6 +72,7 @@ fn with_rests_for(
 }
 
 // Refusals 2, 3, 4. `long` tells whether every vector of the call has 512 entries.
+#[tactic(auto, unfolding(crate::specs::Commitment::tested))]
 fn tested(long: bool, a: &[u16], y1: &[i16], y2: &[i16]) -> Outcome
     ensures { result ≡ testedBy long a.now y1.now y2.now }
 {
@@ -84,6 +89,7 @@ fn tested(long: bool, a: &[u16], y1: &[i16], y2: &[i16]) -> Outcome
 }
 
 // Whether both masks have their coefficients in -4,096 .. 4,096.
+#[tactic(auto, unfolding(crate::specs::Commitment::are_masks))]
 pub fn are_masks(y1: &[i16], y2: &[i16]) -> bool
     ensures { result ≡ are_masks y1.now y2.now }
 {
@@ -93,6 +99,7 @@ pub fn are_masks(y1: &[i16], y2: &[i16]) -> bool
     vectors::all_within(y2, Set::MASK_LIMIT)
 }
 
+#[tactic(auto, using(crate::proofs::Sums::sums_reduced), unfolding(crate::specs::Commitment::committed))]
 fn commit(s: Set, a: &[u16], y1: &[i16], y2: &[i16], out: &mut [u16])
     requires { (length a.now ≡ dimension) × (length y1.now ≡ dimension) × (length y2.now ≡ dimension) × (length out.old ≡ dimension) }
     ensures { out.new ≡ committed s a.now y1.now y2.now }
@@ -101,6 +108,7 @@ fn commit(s: Set, a: &[u16], y1: &[i16], y2: &[i16], out: &mut [u16])
     round(s, out);
 }
 
+#[tactic(auto, using(crate::proofs::Sums::sums_reduced), unfolding(crate::specs::Commitment::committed, crate::specs::Commitment::rests_of))]
 fn commit_with_rests(s: Set, a: &[u16], y1: &[i16], y2: &[i16], out: &mut [u16], rests: &mut [i16])
     requires { (length a.now ≡ dimension) × (length y1.now ≡ dimension) × (length y2.now ≡ dimension) × (length out.old ≡ dimension) × (length rests.old ≡ dimension) }
     ensures { (out.new ≡ committed s a.now y1.now y2.now) × (rests.new ≡ rests_of s a.now y1.now y2.now) }
@@ -111,6 +119,7 @@ fn commit_with_rests(s: Set, a: &[u16], y1: &[i16], y2: &[i16], out: &mut [u16],
 }
 
 // u = 12288 t + y2 modulo 24578, where t = a times y1 modulo q is made in u's place.
+#[tactic(auto, unfolding(crate::specs::Commitment::sums))]
 pub fn make_sums(a: &[u16], y1: &[i16], y2: &[i16], u: &mut [u16])
     requires { (length a.now ≡ dimension) × (length y1.now ≡ dimension) × (length y2.now ≡ dimension) × (length u.old ≡ dimension) }
     ensures { u.new ≡ sums a.now y1.now y2.now }
