@@ -1,11 +1,13 @@
 // Keys for the programs that try the library: f and g with so many coefficients of 1 or -1 and of 2 or -2, and a = (2g + 1) / f modulo q.
+#![tactic(auto)]
+
 ghost use Rattle.std.specs.Prelude.{◌≡◌, length};
 ghost use Rattle.sets.specs.Numbers.{dimension};
 
 use sets::{Asked, Set};
 
 // What is asked of a polynomial: so many coefficients of 2 from place 0 on, so many of 1 behind them; those at odd places are turned where `turned` says so.
-#[derive(Drop)]
+#[derive(Clone, Copy)]
 pub struct Shape {
     pub ones: usize,
     pub twos: usize,
