@@ -8,7 +8,7 @@ use lib.ListN.{length}
 use Rattle.laws.specs.Lists.{zip_with}
 use Rattle.laws.proofs.Solver.{v as var, ◌⊕◌, ◌⊖◌, ◌⊗◌, ring}
 use Rattle.vectors.specs.Vectors.{squares, inner}
-use Rattle.vectors.specs.Pairs.{Pair, pair, squares_pair, inner_pair}
+use Rattle.vectors.specs.Pairs.{Pair, squares_pair, inner_pair}
 use Rattle.vectors.proofs.Greedy.{square_is}
 use Rattle.choices.specs.Choices.{added_if}
 use Rattle.masking.specs.Masking.{masked}

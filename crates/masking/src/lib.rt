@@ -1,4 +1,6 @@
 // What the response computes of z and v: z itself, the numbers of the trials, and z2 dagger (01, "Response" and "The draw").
+#![tactic(auto)]
+
 ghost use Rattle.std.specs.Prelude.{◌≡◌, not, ℕ, ◌+◌, ◌*◌, ◌-◌, ◌^◌, ◌<◌, ◌≤◌, pos, nat_abs, length, get_or};
 ghost use Rattle.laws.specs.Lists.{zip_with};
 ghost use Rattle.sets.specs.Numbers.{dimension, kappa_of, key_limit_of};
@@ -73,6 +75,7 @@ fn twice(x: i32) -> u32
 }
 
 // z2 dagger, with u made anew from a, y1 and y2.
+#[tactic(auto, using(commitment::proofs::Sums::reduced_zip), unfolding(commitment::specs::Commitment::sums))]
 pub fn shorten(
     s: Set,
     a: &[u16],
@@ -92,6 +95,7 @@ pub fn shorten(
     make_daggers(s, &u, z, out);
 }
 
+#[tactic(auto, unfolding(crate::specs::Masking::daggers))]
 fn make_daggers(s: Set, u: &[u16], z: &[i16], out: &mut [i8])
     requires { (length u.now ≡ dimension) × (length z.now ≡ dimension) × (length out.old ≡ dimension) × is_reduced u.now }
     ensures { out.new ≡ daggers s u.now z.now }
