@@ -1,4 +1,6 @@
 // The rebuild and the comparison (01, "Rebuild" and "Comparison").
+#![tactic(auto)]
+
 ghost use Rattle.std.specs.Prelude.{◌≡◌, true, ◌&&◌, ℕ, ◌<◌, pos, nat_abs, length, get_or, replicate};
 ghost use Rattle.laws.specs.Lists.{every, same as sameOf, zip_with};
 ghost use Rattle.sets.specs.Numbers.{dimension, p_of};
@@ -12,6 +14,7 @@ use answers::Outcome;
 use sets::{Asked, Set};
 
 // The rebuild: refusals 1, 2, 3, 5, 10, 11.
+#[tactic(auto, unfolding(crate::specs::Checking::rebuild))]
 pub fn rebuild(set: u32, a: &[u16], z1: &[i16], z2: &[i8], list: &[u16], out: &mut [u16]) -> Outcome
     ensures { filled result out.new ≡ rebuildOf set a.now (claim z1.now z2.now list.now) out.old }
 {
@@ -56,6 +59,7 @@ fn rebuild_for(s: Set, a: &[u16], z1: &[i16], z2: &[i8], list: &[u16], out: &mut
     Outcome::Done
 }
 
+#[tactic(auto, using(commitment::proofs::Sums::sums_reduced), unfolding(crate::specs::Checking::rebuilt))]
 fn restore(s: Set, a: &[u16], z1: &[i16], z2: &[i8], list: &[u16], out: &mut [u16])
     requires a_len { (length a.now ≡ dimension) × (length z1.now ≡ dimension) × (length z2.now ≡ dimension) × (length out.old ≡ dimension) }
     requires list_value { (every is_place list.now ≡ true) × ((k : ℕ) → nat_abs (get_or z2.now k (pos 0)) < p_of s) }
@@ -94,6 +98,7 @@ fn restore_all(s: Set, w: &mut [u16], z2: &[i8])
 }
 
 // The comparison: refusals 1, 5, 12.
+#[tactic(auto, unfolding(crate::specs::Checking::comparison))]
 pub fn comparison(set: u32, claimed: &[u16], hashed: &[u16]) -> Outcome
     ensures { result ≡ comparisonOf set claimed.now hashed.now }
 {
