@@ -1,4 +1,6 @@
 // The response: sign choices, draw, length rule (01, "Response", "The draw", "Length rule"), and the key number (02, C-13).
+#![tactic(auto)]
+
 ghost use Rattle.std.specs.Prelude.{◌≡◌, true, ◌&&◌, ℕ, ◌+◌, ◌*◌, ◌≤◌, eqb, pos, nat_abs, length, get_or};
 ghost use Rattle.laws.specs.Lists.{every};
 ghost use Rattle.laws.specs.Refusals.{must};
@@ -34,6 +36,7 @@ struct Unnumbered {
 }
 
 // The response: refusals 1, 2, 3, 4, 5, 15, 6, then 8 or 9 as the walk ends, then 10, 11. As in the key test, 7 can't occur.
+#[tactic(auto, unfolding(crate::specs::Response::response))]
 pub fn respond(
     set: u32,
     key: u32,
@@ -51,7 +54,7 @@ pub fn respond(
 ) -> Response
     ensures { responded result.outcome result.words result.key z1.new z2.new
         ≡ response set key (record {
-          f = f.entry.now;
+          f = f.now;
           g = g.now;
           a = a.now;
           y1 = y1.now;
@@ -73,6 +76,7 @@ pub fn respond(
     }
 }
 
+#[tactic(auto, using(answers::proofs::Calls::calls, crate::proofs::Ways::refusal_at), unfolding(crate::specs::Response::responding))]
 fn responding(
     set: u32,
     f: &[i8],
@@ -89,7 +93,7 @@ fn responding(
 ) -> Unnumbered
     ensures { unnumbered result.outcome result.words z1.new z2.new
         ≡ responding set (record {
-          f = f.entry.now;
+          f = f.now;
           g = g.now;
           a = a.now;
           y1 = y1.now;
@@ -115,6 +119,7 @@ fn refusal(outcome: Outcome) -> Unnumbered
     Unnumbered { outcome, words: 0 }
 }
 
+#[tactic(auto, using(laws::proofs::Chain::calls, crate::proofs::Ways::refusal_at, crate::proofs::Ways::all_sized_lem), unfolding(crate::specs::Response::response_for))]
 fn respond_for(
     s: Set,
     f: &[i8],
@@ -131,7 +136,7 @@ fn respond_for(
 ) -> Unnumbered
     ensures { unnumbered result.outcome result.words z1.new z2.new
         ≡ response_for s (record {
-          f = f.entry.now;
+          f = f.now;
           g = g.now;
           a = a.now;
           y1 = y1.now;
@@ -184,7 +189,7 @@ fn test(
     requires y1_len { (length y1.now ≡ dimension) × (length y2.now ≡ dimension) × (length z1.old ≡ dimension) × (length z2.old ≡ dimension) }
     ensures { unnumbered result.outcome result.words z1.new z2.new
         ≡ response_for s (record {
-          f = f.entry.now;
+          f = f.now;
           g = g.now;
           a = a.now;
           y1 = y1.now;
@@ -239,9 +244,9 @@ fn sign_with(
     requires s1_value { (every (within 5) s1.now ≡ true) × (every (within 5) s2.now ≡ true) × (are_masks y1.now y2.now ≡ true) × (proper_list s list.now ≡ true) }
     requires s2_bound { squares s1.now + squares s2.now ≤ key_limit_of s }
     ensures { unnumbered result.outcome result.words z1.new z2.new
-        ≡ must (relation a.entry.now s1.now s2.now) (leaving (pair z1.old z2.old) 0 RelationBroken)
+        ≡ must (relation a.now s1.now s2.now) (leaving (pair z1.old z2.old) 0 RelationBroken)
         (drawn s (record {
-          a = a.entry.now;
+          a = a.now;
           y = pair y1.now y2.now;
           sign = sign;
           thresholds = thresholds.now;
@@ -284,7 +289,7 @@ fn draw_for(
     requires by_index { ((k : ℕ) → nat_abs (get_or v1.old k (pos 0)) ≤ 5 * kappa_of s) × ((k : ℕ) → nat_abs (get_or v2.old k (pos 0)) ≤ 5 * kappa_of s) }
     ensures { unnumbered result.outcome result.words z1.new z2.new
         ≡ drawn s (record {
-          a = a.entry.now;
+          a = a.now;
           y = pair y1.now y2.now;
           sign = sign;
           thresholds = thresholds.now;
