@@ -35,8 +35,8 @@ module _ (form : Form) (s : Set) (n : ℕ) (long : n ≡ total_of form s) where
   some : 1 ≤ n
   some = omega (arith, z2_after form, list_after form)
 
-  place-fits : Fits w32 (n - 1)
-  place-fits = omega (arith, total_small form s)
+  place_fits : Fits w32 (n - 1)
+  place_fits = omega (arith, total_small form s)
 
 pub returns-then-not-spare_clear : goal.returns-then-not-spare_clear
 returns-then-not-spare_clear c = search set
