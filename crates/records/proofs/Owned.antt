@@ -10,7 +10,7 @@ use mir.Syntax.{w8}
 use mir.Val.{Fits}
 use mir.Facts.{Fits-lit}
 use base.Logic.{ent, sep, guard}
-use base.Fml.{Lft, GName, Share, flft}
+use base.Fml.{Lft, Share, flft}
 use types.Logic.{Logic, sem}
 use types.Kit.{◌$◌, !, ‵, ◌⊛◌, qed, use2, given, learn, check, split, later, await, updating, now, done}
 use borrow.Author.Tests.{lt-ltb}
@@ -24,12 +24,12 @@ use Rattle.byte_codes.specs.Bytes.{is_byte}
 pub fit_bytes : (xs : List ℕ) → ((k : ℕ) → Fits w8 (get_or xs k 0)) → every is_byte xs ≡ true
 fit_bytes xs fit = every_of is_byte xs 0 (λ k h. lt-ltb _ _ (fit k).fits)
 
-module _ {M : Type 1} {𝓤 : Ura M} (𝓛 : Logic 𝓤) (κ : Lft) (q : Share) (b o : ℕ) (γ : GName) where
+module _ {M : Type 1} {𝓤 : Ura M} (𝓛 : Logic 𝓤) (κ : Lft) (q : Share) (b o : ℕ) where
   open 𝓛 use {H, A}
 
-  pub owned_bytes : (xs : List ℕ) → ent 𝓤 (sep 𝓤 (sem 𝓛 (OwnH 𝓛 (f_int w8) κ q b o γ xs)) (A.lft κ q))
-      (H.⇛ (guard 𝓤 (every is_byte xs ≡ true) (sep 𝓤 (sem 𝓛 (OwnH 𝓛 (f_int w8) κ q b o γ xs)) (A.lft κ q))))
+  pub owned_bytes : (xs : List ℕ) → ent 𝓤 (sep 𝓤 (sem 𝓛 (OwnH 𝓛 (f_int w8) κ q b o xs)) (A.lft κ q))
+      (H.⇛ (guard 𝓤 (every is_byte xs ≡ true) (sep 𝓤 (sem 𝓛 (OwnH 𝓛 (f_int w8) κ q b o xs)) (A.lft κ q))))
   owned_bytes xs =
-      qed 𝓛 (‵ (OwnH 𝓛 (f_int w8) κ q b o γ xs) ∷ ‵ (flft κ q) ∷ []) {P = H.⇛ (guard 𝓤 (every is_byte xs ≡ true) (sep 𝓤 (sem 𝓛 (OwnH 𝓛 (f_int w8) κ q b o γ xs)) (A.lft κ q)))} (
-      updating ! $ use2 𝓛 (later (given (AllWt (f_int w8) xs) (‵ (OwnH 𝓛 (f_int w8) κ q b o γ xs) ⊛ ‵ (flft κ q)))) (shs_known 𝓛 (f_int w8) κ q b o γ xs) $
+      qed 𝓛 (‵ (OwnH 𝓛 (f_int w8) κ q b o xs) ∷ ‵ (flft κ q) ∷ []) {P = H.⇛ (guard 𝓤 (every is_byte xs ≡ true) (sep 𝓤 (sem 𝓛 (OwnH 𝓛 (f_int w8) κ q b o xs)) (A.lft κ q)))} (
+      updating ! $ use2 𝓛 (later (given (AllWt (f_int w8) xs) (‵ (OwnH 𝓛 (f_int w8) κ q b o xs) ⊛ ‵ (flft κ q)))) (shs_known 𝓛 (f_int w8) κ q b o xs) $
       await ! tt $ learn ! (λ a. now ! $ check ! (fit_bytes xs (fit_at (f_int w8) 0 (Fits-lit tt) xs a)) $ split ! $ done !))

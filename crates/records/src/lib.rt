@@ -1,5 +1,6 @@
 // Records, plain (01, "The record") and packed (02, C-11): a writer, a reader, conversions from one form to the other, and three calls that fetch the sections of
 // a plain record.
+#![tactic(auto)]
 
 ghost use Rattle.std.specs.Prelude.{◌≡◌, true, ◌++◌, map, ℕ, ◌*◌, ◌^◌, ◌≤◌, ◌<◌, pos, nat_abs, length, drop, get_or};
 ghost use Rattle.sets.specs.Numbers.{dimension, list_limit, kappa_of};
@@ -19,7 +20,7 @@ pub use record_forms::{list_section, z1_section, z2_section};
 use sets::{Asked, Set};
 
 // What the reader answers: the set and the key number are 0 when it refuses.
-#[derive(Drop)]
+#[derive(Clone, Copy)]
 pub struct Reading {
     pub outcome: Outcome,
     pub set: u32,
