@@ -2,6 +2,8 @@
 // - 12288 t modulo 24578: t = 0, 1, 2 give 0, 12288, 24576.
 // - Set 1, f = 1, g = 0, masks zero, list 0 .. 22: v is -1 at places 0 .. 22 of both halves, squared length 46. The first trial is of 17,779, the second of 92.
 //   No call takes this key (refusal 15, see signing_points): its walk is a point of the draw.
+#![tactic(auto)]
+
 ghost use Rattle.std.specs.Prelude.{◌≡◌, true, ◌+◌, ◌*◌, ◌^◌, ◌<◌, ◌≤◌, length};
 ghost use Rattle.laws.specs.Lists.{every};
 ghost use Rattle.sets.specs.Numbers.{dimension, list_limit, kappa_of, key_limit_of};
@@ -10,8 +12,10 @@ ghost use Rattle.vectors.specs.Pairs.{pair, squares_pair};
 ghost use Rattle.vectors.specs.Places.{proper_list};
 
 use draw::Ending;
-use libc::STDOUT_FILENO;
 use sets::Set;
+
+// The descriptor of the standard output.
+const STDOUT: i32 = 1;
 
 fn main() {
     print_sum(0);
@@ -25,7 +29,7 @@ fn main() {
 
 fn print_sum(t: u16) {
     print(b"12288 t modulo 24578, t = ");
-    io::print_decimal(STDOUT_FILENO, t as u64);
+    io::print_decimal(STDOUT, t as u64);
     print_number(b": ", rounding::sum(t, 0) as u64);
 }
 
@@ -160,7 +164,7 @@ fn print_half(name: &[u8], v: &[i16], kappa: usize)
 {
     print(name);
     print(b", first ");
-    io::print_decimal(STDOUT_FILENO, kappa as u64);
+    io::print_decimal(STDOUT, kappa as u64);
     print(b" places: ");
     print_counts(&v[..kappa]);
     print(b"; other places: ");
@@ -169,9 +173,9 @@ fn print_half(name: &[u8], v: &[i16], kappa: usize)
 }
 
 fn print_counts(entries: &[i16]) {
-    io::print_decimal(STDOUT_FILENO, count(entries, -1) as u64);
+    io::print_decimal(STDOUT, count(entries, -1) as u64);
     print(b" are -1, ");
-    io::print_decimal(STDOUT_FILENO, count(entries, 0) as u64);
+    io::print_decimal(STDOUT, count(entries, 0) as u64);
     print(b" are 0");
 }
 
@@ -192,10 +196,10 @@ fn one_if_same(x: i16, y: i16) -> usize
 
 fn print_number(text: &[u8], number: u64) {
     print(text);
-    io::print_decimal(STDOUT_FILENO, number);
+    io::print_decimal(STDOUT, number);
     print(b"\n");
 }
 
 fn print(text: &[u8]) {
-    io::write_all(STDOUT_FILENO, text);
+    io::write_all(STDOUT, text);
 }
