@@ -11,7 +11,6 @@ use lib.IntN.{ℤ, pos, neg_ℤ, nat_abs, ◌+ℤ◌, ◌-ℤ◌, ◌*ℤ◌}
 use lib.ListN.{length, get_or}
 use lib.Signed.{le_z}
 use Rattle.laws.specs.Integers.{residue}
-use Rattle.laws.specs.Lists.{every}
 use Rattle.laws.proofs.Bounds.{abs_mul}
 use Rattle.laws.proofs.Chain.{and_left, and_right}
 use Rattle.laws.proofs.Linear.{le_in, lt_in, eq_in, le_out, lt_out, eq_out, le_yes, sum, difference, opposite, multiple, size, size_le}
