@@ -59,13 +59,7 @@ pub fn bursztok_key_test(set: u32, f: &[i8], g: &[i8], a: &[u16]) -> Answer
     answered(keys::key_test(set, f, g, a))
 }
 
-pub fn bursztok_commitment(
-    set: u32,
-    a: &[u16],
-    y1: &[i16],
-    y2: &[i16],
-    out: &mut [u16],
-) -> Answer
+pub fn bursztok_commitment(set: u32, a: &[u16], y1: &[i16], y2: &[i16], out: &mut [u16]) -> Answer
     ensures { left result out.new ≡ left_by (commitment set a.now y1.now y2.now out.old) }
 {
     answered(commitment::commitment(set, a, y1, y2, out))
@@ -172,12 +166,7 @@ pub fn bursztok_write(
     answered(records::write(Form::Plain, set, key, z1, z2, list, out))
 }
 
-pub fn bursztok_read(
-    rec: &[u8],
-    z1: &mut [i16],
-    z2: &mut [i8],
-    list: &mut [u16],
-) -> Reading
+pub fn bursztok_read(rec: &[u8], z1: &mut [i16], z2: &mut [i8], list: &mut [u16]) -> Reading
     ensures { stored result z1.new z2.new list.new ≡ stored_by (reading_of Plain rec.now (buffers z1.old z2.old list.old)) }
 {
     read_answer(records::read(Form::Plain, rec, z1, z2, list))
@@ -197,12 +186,7 @@ pub fn bursztok_write_packed(
     answered(records::write(Form::Packed, set, key, z1, z2, list, out))
 }
 
-pub fn bursztok_read_packed(
-    rec: &[u8],
-    z1: &mut [i16],
-    z2: &mut [i8],
-    list: &mut [u16],
-) -> Reading
+pub fn bursztok_read_packed(rec: &[u8], z1: &mut [i16], z2: &mut [i8], list: &mut [u16]) -> Reading
     ensures { stored result z1.new z2.new list.new ≡ stored_by (reading_of Packed rec.now (buffers z1.old z2.old list.old)) }
 {
     read_answer(records::read(Form::Packed, rec, z1, z2, list))
@@ -220,6 +204,7 @@ pub fn bursztok_unpack(rec: &[u8], out: &mut [u8]) -> Answer
     answered(records::convert(Form::Packed, Form::Plain, rec, out))
 }
 
+#[tactic(auto, using(crate::proofs::Answers::located_at))]
 pub fn bursztok_z1_section(rec: &[u8], number: &mut u32, place: &mut u32) -> Part
     ensures { located result number.new place.new ≡ located_by rec.entry.ref_ptr (z1_section rec.entry.ref_ptr rec.now) }
 {
@@ -227,6 +212,7 @@ pub fn bursztok_z1_section(rec: &[u8], number: &mut u32, place: &mut u32) -> Par
     part_at(*number, Z1_OFFSET, part)
 }
 
+#[tactic(auto, using(crate::proofs::Answers::located_at))]
 pub fn bursztok_z2_section(rec: &[u8], number: &mut u32, place: &mut u32) -> Part
     ensures { located result number.new place.new ≡ located_by rec.entry.ref_ptr (z2_section rec.entry.ref_ptr rec.now) }
 {
@@ -234,6 +220,7 @@ pub fn bursztok_z2_section(rec: &[u8], number: &mut u32, place: &mut u32) -> Par
     part_at(*number, Z2_OFFSET, part)
 }
 
+#[tactic(auto, using(crate::proofs::Answers::located_at))]
 pub fn bursztok_list_section(rec: &[u8], number: &mut u32, place: &mut u32) -> Part
     ensures { located result number.new place.new ≡ located_by rec.entry.ref_ptr (list_section rec.entry.ref_ptr rec.now) }
 {
