@@ -5,7 +5,7 @@ use crate::slots;
 
 // The 36 bytes of a call: the set, then what is wanted, then the lengths of the outputs that are lent, the sign bit, what the outputs hold before, the key number
 // that is lent and the one that is wanted.
-#[derive(Drop)]
+#[derive(Clone, Copy)]
 pub struct Asked {
     pub set: u32,
     pub number: u32,
