@@ -1,11 +1,15 @@
 // The calls on records, each printed as a line: what it is lent, the number and the place, the set and the key number that the reader answers, and a checksum of
 // what the output, the buffers or the section holds afterwards. The program records_run has the cases.
+#![tactic(auto)]
+
 ghost use Rattle.std.specs.Prelude.{◌≡◌, length};
 
 use answers::Outcome;
-use libc::STDOUT_FILENO;
 use record_forms::Form;
 use sets::{Asked, Set};
+
+// Standard output's file descriptor.
+const STDOUT: i32 = 1;
 
 // ---- what is lent
 
@@ -227,12 +231,12 @@ pub fn part(text: &[u8], bytes: &[u8], n: u32, place: u32) {
 // ---- text and checksums
 
 pub fn print(text: &[u8]) {
-    io::write_all(STDOUT_FILENO, text);
+    io::write_all(STDOUT, text);
 }
 
 pub fn number(text: &[u8], n: u64) {
     print(text);
-    io::print_decimal(STDOUT_FILENO, n);
+    io::print_decimal(STDOUT, n);
 }
 
 // A signed number, from its two's complement.
