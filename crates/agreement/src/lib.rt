@@ -1,4 +1,6 @@
 // Demand 3, to be run: the checker's half, which may say no, and the signer's half.
+#![tactic(auto)]
+
 ghost use Rattle.std.specs.Prelude.{◌≡◌, pos, replicate};
 ghost use Rattle.laws.specs.Lists.{same};
 ghost use Rattle.sets.specs.Numbers.{dimension};
@@ -14,6 +16,7 @@ use signing::Response;
 
 // Whether a checker who holds the public key takes a record of a form for that of whoever committed to a vector: the reader reads it, nothing is refused, and the rebuilt
 // vector is the committed one.
+#[tactic(auto, unfolding(crate::specs::Accepted::accepted, crate::specs::Accepted::read_rebuilds))]
 pub fn accepts(form: Form, a: &[u16], rec: &[u8], committed: &[u16]) -> bool
     ensures { result ≡ accepted form a.now rec.now committed.now }
 {
@@ -35,6 +38,7 @@ pub fn accepts(form: Form, a: &[u16], rec: &[u8], committed: &[u16]) -> bool
 }
 
 // Which key signed: the key number that a record states, 0 where the reader refuses it.
+#[tactic(auto, unfolding(crate::specs::Accepted::key_read))]
 pub fn key_read(form: Form, rec: &[u8]) -> u32
     ensures { result ≡ key_read form rec.now }
 {
@@ -46,6 +50,7 @@ pub fn key_read(form: Form, rec: &[u8]) -> u32
 }
 
 // The comparison of the list with itself, and the rebuild.
+#[tactic(auto, unfolding(crate::specs::Accepted::rebuilds, crate::specs::Accepted::fills))]
 fn rebuilds(a: &[u16], set: u32, z1: &[i16], z2: &[i8], list: &[u16], committed: &[u16]) -> bool
     ensures { result ≡ rebuildsTo a.now set (claim z1.now z2.now list.now) committed.now }
 {
@@ -62,6 +67,7 @@ fn rebuilds(a: &[u16], set: u32, z1: &[i16], z2: &[i8], list: &[u16], committed:
 }
 
 // Whether two vectors of any lengths are the same.
+#[tactic(auto, using(crate::proofs::Answers::longer))]
 fn is_same(x: &[u16], y: &[u16]) -> bool
     ensures { result ≡ same x.now y.now }
 {
@@ -74,6 +80,7 @@ fn is_same(x: &[u16], y: &[u16]) -> bool
 // ---- the signer
 
 // Signs, commits and writes the record to the front of an output. The outcome is the first refusal of the three.
+#[tactic(auto, unfolding(crate::specs::Accepted::sent_after))]
 pub fn send(
     form: Form,
     set: u32,
