@@ -99,7 +99,7 @@ pub fn send(
 ) -> Response
     ensures { sent result.outcome result.words result.key out.new committed.new
         ≡ sending form set key (record {
-          f = f.entry.now;
+          f = f.now;
           g = g.now;
           a = a.now;
           y1 = y1.now;
