@@ -1,5 +1,7 @@
 // The calls on records of every set, plain and packed: a header damaged byte by byte, every length, entries at the limits and past them, improper lists, spare
 // bits, buffers of the wrong length, the other form's record, key numbers. The crate record_calls makes the calls and prints a line for each.
+#![tactic(auto)]
+
 ghost use Rattle.std.specs.Prelude.{◌≡◌, length};
 ghost use Rattle.sets.specs.Numbers.{list_limit};
 
