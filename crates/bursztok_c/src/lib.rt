@@ -83,7 +83,9 @@ pub extern "C" fn bursztok_respond(
           z2 = z2.old;
         })) }
 {
-    bursztok::bursztok_respond(set, key, f, g, a, y1, y2, list, sign, thresholds, words, z1, z2)
+    bursztok::bursztok_respond(
+        set, key, f, g, a, y1, y2, list, sign, thresholds, words, z1, z2,
+    )
 }
 
 #[unsafe(no_mangle)]
