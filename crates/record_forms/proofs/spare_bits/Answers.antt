@@ -1,12 +1,9 @@
 use mathlib.Core.Path.{◌≡◌, ap, ◌∙◌}
 use mathlib.Core.Bool.{Bool, true, false, not}
 use mathlib.Core.List.{List}
-use Prim.Native.Nat.{ℕ, ◌*◌, ◌-◌, ◌^◌, ◌≤◌}
-use native.Mathlib.Omega.{arith}
+use Prim.Native.Nat.{ℕ, ◌*◌, ◌-◌, ◌^◌}
 use lib.Dec.{ltb}
 use lib.ListN.{length}
-use mir.Syntax.{w32}
-use mir.Val.{Fits}
 use Rattle.laws.proofs.Chain.{failed, passed}
 use Rattle.sets.specs.declared.Set.{Set}
 use Rattle.sets.specs.Numbers.{kappa_of}
@@ -15,7 +12,6 @@ use Rattle.record_forms.specs.declared.Form.{Form}
 use Rattle.record_forms.specs.declared.Header.TheVariants.{States, Malformed}
 use Rattle.record_forms.specs.Forms.{list_bits_of, list_offset_of, total_of}
 use Rattle.record_forms.specs.Headers.{part, is_spare_clear, spare_bits}
-use Rattle.record_forms.proofs.Forms.{z2_after, list_after, total_small}
 use Rattle.record_forms.proofs.spare_bits.Goals as goal
 
 module _ (form : Form) (s : Set) (rec : List ℕ) (from bits : ℕ) (r : Bool) (long : length rec ≡ total_of form s) (e : from ≡ list_offset_of form) (f : bits ≡ list_bits_of form * kappa_of s)
@@ -30,13 +26,6 @@ module _ (form : Form) (s : Set) (rec : List ℕ) (from bits : ℕ) (r : Bool) (
   clear : not r ≡ false → States s ≡ spare_bits form s rec
   unfolding spare_bits
   clear t = rw (passed {r = r} {s = is_spare_clear form s rec} tells t)
-
-module _ (form : Form) (s : Set) (n : ℕ) (long : n ≡ total_of form s) where
-  some : 1 ≤ n
-  some = omega (arith, z2_after form, list_after form)
-
-  place_fits : Fits w32 (n - 1)
-  place_fits = omega (arith, total_small form s)
 
 pub returns-then-not-spare_clear : goal.returns-then-not-spare_clear
 returns-then-not-spare_clear c = search set
