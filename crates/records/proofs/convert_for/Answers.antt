@@ -1,20 +1,15 @@
-use mathlib.Core.Path.{◌≡◌, ap, ◌∙◌}
+use mathlib.Core.Path.{◌≡◌}
 use mathlib.Core.List.{List}
 use Prim.Native.Nat.{ℕ}
-use lib.ListN.{length}
 use Rattle.sets.specs.declared.Set.{Set}
 use Rattle.answers.specs.declared.Outcome.{Outcome}
 use Rattle.answers.specs.Outcomes.{filled}
 use Rattle.record_forms.specs.declared.Form.{Form}
-use Rattle.record_forms.specs.Forms.{total_of}
 use Rattle.records.specs.Signatures.{signature_in}
 use Rattle.records.specs.Writer.{recorded_to}
 use Rattle.records.proofs.convert_for.Goals as goal
 
 module _ (from told to : Form) (s : Set) (rec : List ℕ) (e : from ≡ told) where
-  told_long : length rec ≡ total_of from s → length rec ≡ total_of told s
-  told_long h = h ∙ ap (λ (f : Form). total_of f s) e
-
   told_records : (out : List ℕ) (o : Outcome) (now : List ℕ) → filled o now ≡ recorded_to to (signature_in told s rec) out → filled o now ≡ recorded_to to (signature_in from s rec) out
   told_records out o now h = rw e h
 

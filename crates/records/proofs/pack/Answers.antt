@@ -1,41 +1,20 @@
 use mathlib.Core.Path.{◌≡◌, ap, ◌∙◌}
-use mathlib.Core.List.{List, ◌++◌}
 use Prim.Native.Nat.{ℕ, ◌*◌, ◌-◌, ◌≤◌}
 use native.Mathlib.Omega.{arith}
-use borrow.Rule.Slice.PartMut.{put_mid}
-use lib.ListN.{length, drop}
 use Rattle.sets.specs.declared.Set.{Set}
 use Rattle.sets.specs.Numbers.{dimension, list_limit, kappa_of}
 use Rattle.sets.proofs.Alike.{kappa_within}
 use Rattle.bit_codes.specs.Bits.{bytes_for, packed_bits}
 use Rattle.record_forms.specs.declared.Form.{Form}
 use Rattle.record_forms.specs.Forms.{z1_bits_of, z2_bits_of, list_bits_of, z1_offset, z2_offset_of, list_offset_of, total_of}
-use Rattle.record_forms.proofs.Forms.{z2_after_z1, list_after_z2, z2_after, list_after}
+use Rattle.record_forms.proofs.Forms.{z2_after_z1, list_after_z2}
 use Rattle.records.specs.Signatures.{signature}
 use Rattle.records.proofs.Buffers.{proper_length}
 use Rattle.records.proofs.Back.{z1_small, z2_small, list_small}
 use Rattle.records.proofs.Forms.{pieces}
 use Rattle.records.proofs.pack.Goals as goal
 
-abbrev one : (old header : List ℕ) → List ℕ
-one old header = header ++ drop z1_offset old
-
-abbrev two : ℕ → (old header wide : List ℕ) → List ℕ
-two z2 old header wide = put_mid z1_offset (z2 - z1_offset) (one old header) wide
-
-abbrev three : ℕ → ℕ → (old header wide narrow : List ℕ) → List ℕ
-three z2 list old header wide narrow = put_mid z2 (list - z2) (two z2 old header wide) narrow
-
 module _ (form : Form) (s : Set) (z2 list total : ℕ) (p : z2 ≡ z2_offset_of form) (q : list ≡ list_offset_of form) (t : total ≡ total_of form s) where
-  z1_first : z1_offset ≤ z2
-  z1_first = omega (arith, z2_after form)
-
-  z2_first : z2 ≤ list
-  z2_first = omega (arith, list_after form)
-
-  list_first : list ≤ total
-  list_first = omega arith
-
   z1_room : (n : ℕ) → n ≡ z2 - z1_offset → n ≡ bytes_for (z1_bits_of form * dimension)
   z1_room n e = omega (arith, z2_after_z1 form)
 
@@ -44,26 +23,6 @@ module _ (form : Form) (s : Set) (z2 list total : ℕ) (p : z2 ≡ z2_offset_of 
 
   list_room : (n : ℕ) → n ≡ total - list → (l : ℕ) → l ≡ kappa_of s → n ≡ bytes_for (list_bits_of form * l)
   list_room n e l h = rw h (omega arith)
-
-  module _ (old header : List ℕ) (k : total_of form s ≤ length old) where
-    header_within : z1_offset ≤ length old
-    header_within = omega (arith, z2_after form, list_after form)
-
-    module _ (e : length (one old header) ≡ length old) where
-      within_one : z2 ≤ length (one old header)
-      within_one = omega (arith, list_after form)
-
-      module _ (wide : List ℕ) (f : length (two z2 old header wide) ≡ length (one old header)) where
-        within_two : list ≤ length (two z2 old header wide)
-        within_two = omega arith
-
-        module _ (narrow : List ℕ) (h : length (three z2 list old header wide narrow) ≡ length (two z2 old header wide)) where
-          within_three : total ≤ length (three z2 list old header wide narrow)
-          within_three = omega arith
-
-          keeps : (places : List ℕ) → length (put_mid list (total - list) (three z2 list old header wide narrow) places) ≡ length (three z2 list old header wide narrow)
-              → length (put_mid list (total - list) (three z2 list old header wide narrow) places) ≡ length old
-          keeps places l = l ∙ h ∙ f ∙ e
 
 few : (n : ℕ) (s : Set) → n ≡ kappa_of s → n ≤ list_limit
 few n s e = omega (arith, kappa_within s)

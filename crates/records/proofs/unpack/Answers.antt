@@ -1,19 +1,15 @@
-use mathlib.Core.Path.{◌≡◌, ◌∙◌, ap}
+use mathlib.Core.Path.{◌≡◌}
 use mathlib.Core.List.{List, ◌++◌}
 use Prim.Native.Nat.{ℕ}
 use lib.IntN.{ℤ}
-use lib.ListN.{length, drop}
+use lib.ListN.{drop}
 use Rattle.sets.specs.declared.Set.{Set}
 use Rattle.sets.specs.Numbers.{kappa_of}
 use Rattle.record_forms.specs.declared.Form.{Form}
-use Rattle.record_forms.specs.Forms.{total_of}
 use Rattle.records.specs.Signatures.{signature_in}
 use Rattle.records.proofs.unpack.Goals as goal
 
 module _ (form told : Form) (s : Set) (rec : List ℕ) (e : form ≡ told) where
-  told_long : length rec ≡ total_of form s → length rec ≡ total_of told s
-  told_long h = h ∙ ap (λ (f : Form). total_of f s) e
-
   told_read : (z1 z2 : List ℤ) (list old : List ℕ)
       → (z1 ≡ (signature_in told s rec).z1) × (z2 ≡ (signature_in told s rec).z2) × (list ≡ (signature_in told s rec).list ++ drop (kappa_of s) old)
       → (z1 ≡ (signature_in form s rec).z1) × (z2 ≡ (signature_in form s rec).z2) × (list ≡ (signature_in form s rec).list ++ drop (kappa_of s) old)

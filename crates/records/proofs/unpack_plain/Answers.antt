@@ -1,10 +1,8 @@
 use mathlib.Core.Path.{◌≡◌, ap, ◌∙◌}
 use mathlib.Core.List.{List, ◌++◌, map}
-use Prim.Native.Nat.{ℕ, ◌*◌, ◌-◌}
-use native.Mathlib.Omega.{arith}
+use Prim.Native.Nat.{ℕ}
 use lib.IntN.{ℤ}
-use lib.ListN.{length, take, drop, get_or, length-drop}
-use lib.Seq.{length-take-le}
+use lib.ListN.{length, take, drop, get_or}
 use mir.Syntax.{w8}
 use mir.Val.{Fits}
 use Rattle.sets.specs.declared.Set.{Set}
@@ -27,12 +25,6 @@ module _ (s : Set) (rec : List ℕ) (fit : (k : ℕ) → Fits w8 (get_or rec k 0
   z2_read n now h e = e ∙ rw h (ap (map (from_complement 8)) (unpacked_bits_lem 1 dimension _ (part_small rec (λ k. (fit k).fits) (z2_offset_of Plain) (list_offset_of Plain))))
 
   module _ (list : List ℕ) (kappa : ℕ) (long : length rec ≡ total_of Plain s) (e : kappa ≡ kappa_of s) (h : length list ≡ list_limit) where
-    -- the list's section has two bytes for each of its entries
-    places_long : length (part (list_offset_of Plain) (length rec) rec) ≡ 2 * length (take kappa list)
-    places_long =
-        let rest : length (drop (list_offset_of Plain) rec) ≡ length rec - list_offset_of Plain = length-drop (list_offset_of Plain) rec in
-        length-take-le (length rec - list_offset_of Plain) (drop (list_offset_of Plain) rec) (omega arith) ∙ omega (arith, front_long list kappa s e h)
-
     -- the list that was read, in front of the old entries
     places_read : (now : List ℕ) → now ≡ unpacked 2 (length (take kappa list)) (part (list_offset_of Plain) (length rec) rec)
         → now ++ drop kappa list ≡ (signature_in Plain s rec).list ++ drop (kappa_of s) list
