@@ -96,7 +96,7 @@ pub fn bursztok_respond(
 ) -> Response
     ensures { replied result z1.new z2.new
         ≡ replied_by (response set key (record {
-          f = f.entry.now;
+          f = f.now;
           g = g.now;
           a = a.now;
           y1 = y1.now;
