@@ -80,7 +80,14 @@ fn opens(bytes: &[u8], letters: &[u8]) -> bool
 }
 
 // One entry: a load, a patch or a call. False where it is none.
-fn entry(file: &[u8], at: &mut usize, before: bool, memory: &mut [u8], counts: &mut [u32], said: &mut [u32]) -> bool
+fn entry(
+    file: &[u8],
+    at: &mut usize,
+    before: bool,
+    memory: &mut [u8],
+    counts: &mut [u32],
+    said: &mut [u32],
+) -> bool
     requires { (length memory.old ≡ 38912) × (length counts.old ≡ 288) }
 {
     let mut bytes = [0u8; 8];
@@ -123,11 +130,7 @@ fn load(file: &[u8], at: &mut usize, h: Head, memory: &mut [u8]) -> bool
     if h.what != 1 {
         return got == count;
     }
-    byte_codes::put_number(
-        memory,
-        2 * slot,
-        h.start.wrapping_add(h.count),
-    );
+    byte_codes::put_number(memory, 2 * slot, h.start.wrapping_add(h.count));
     got == count
 }
 
@@ -149,7 +152,8 @@ fn scaled(width: u8, count: u16) -> usize
 }
 
 fn called(
-    file: &[u8], at: &mut usize,
+    file: &[u8],
+    at: &mut usize,
     before: bool,
     which: u8,
     memory: &[u8],
