@@ -3,6 +3,8 @@
 
 usage: python3 tools/respell.py            at the top of the repository: rewrites specs/, proofs/, clauses and imports of src/, must-fail/ and the pages
        python3 tools/respell.py --list     prints old and new names, and new names that fall together with others, and writes nothing
+
+It ran where docs/PORT.md begins, and does not run again where that page stands.
 """
 
 import glob
@@ -159,6 +161,12 @@ def write(path, text, old):
 
 def main(argv):
     os.chdir(subprocess.run(["git", "rev-parse", "--show-toplevel"], capture_output=True, text=True, check=True).stdout.strip())
+    if argv not in ([], ["--list"]):
+        print(__doc__)
+        return 2
+    if not argv and os.path.exists("docs/PORT.md"):
+        print("respell: docs/PORT.md is there, so this ran already: nothing was changed")
+        return 2
     found = defined()
     to = mapping(found)
     back = {}
