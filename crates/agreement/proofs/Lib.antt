@@ -1,3 +1,2 @@
--- From what the calls leave behind to what `accepts` and `send` answer; and the promise.
-pub mod Answers
+-- The promise.
 pub mod Promise

@@ -10,9 +10,7 @@ use Rattle.laws.proofs.Loops.{is_same}
 use Rattle.sets.specs.declared.Set.{Set}
 use Rattle.sets.specs.Numbers.{dimension, list_limit, kappa_of, set_number_of}
 use Rattle.sets.proofs.Alike.{asked_back}
-use Rattle.answers.specs.declared.Outcome.{Outcome}
-use Rattle.answers.specs.declared.Outcome.TheVariants.{Done}
-use Rattle.answers.specs.Outcomes.{is_done, Filled, filled}
+use Rattle.answers.specs.Outcomes.{Outcome, Done, is_done, Filled, filled}
 use Rattle.answers.proofs.Calls.{zero_is}
 use Rattle.vectors.specs.Places.{proper_list}
 use Rattle.vectors.proofs.Rising.{proper_count}

@@ -1,11 +1,9 @@
 -- Demand 3, to be run: the checker's half as one truth value, the signer's half as what it leaves behind, and the promise that the one says yes to the other.
-use Rattle.std.specs.Prelude.{◌≡◌, Bool, true, false, ◌&&◌, List, ℕ, ◌^◌, ◌<◌, ◌≤◌, ℤ, pos, length, take, replicate}
+use Rattle.std.specs.Prelude.{◌≡◌, Bool, true, false, ◌&&◌, List, ℕ, ◌^◌, ◌<◌, ◌≤◌, ℤ, pos, length, take, replicate, Some}
 use Rattle.laws.specs.Lists.{same}
 use Rattle.sets.specs.declared.Set.{Set}
-use Rattle.sets.specs.declared.Asked.TheVariants.{Known}
 use Rattle.sets.specs.Numbers.{dimension, list_limit, kappa_of, asked_of}
-use Rattle.answers.specs.declared.Outcome.{Outcome}
-use Rattle.answers.specs.Outcomes.{number_of, is_done, unless, key_with, for_set, Filled, filled}
+use Rattle.answers.specs.Outcomes.{Outcome, number_of, is_done, unless, key_with, for_set, Filled, filled}
 use Rattle.commitment.specs.Commitment.{committed, commitment}
 use Rattle.signing.specs.Response.{Lent, Responded, responded, response}
 use Rattle.checking.specs.Checking.{Claim, claim, rebuild, comparison}
@@ -88,7 +86,7 @@ SaysYes =
     → key < 2 ^ 32
     → response set key c ≡ responded o count back z1 z2
     → number_of o ≡ 0
-    → asked_of set ≡ Known s
+    → asked_of set ≡ Some s
     → length before ≡ dimension → total_of form s ≤ length out
     → (after : List ℕ)
     × Fills (commitment set c.a c.y1 c.y2 before) (committed s c.a c.y1 c.y2)

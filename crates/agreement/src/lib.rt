@@ -2,39 +2,30 @@
 #![tactic(auto)]
 
 ghost use Rattle.std.specs.Prelude.{◌≡◌, pos, replicate};
-ghost use Rattle.laws.specs.Lists.{same};
 ghost use Rattle.sets.specs.Numbers.{dimension};
 ghost use Rattle.checking.specs.Checking.{claim};
 ghost use Rattle.agreement.specs.Accepted.{rebuilds as rebuildsTo, accepted, key_read, sent, held, sending};
 
-use answers::Outcome;
 use record_forms::Form;
-use sets::{Asked, Set};
+use sets::Set;
 use signing::Response;
 
 // ---- the checker
 
 // Whether a checker who holds the public key takes a record of a form for that of whoever committed to a vector: the reader reads it, nothing is refused, and the rebuilt
 // vector is the committed one.
-#[tactic(auto, unfolding(crate::specs::Accepted::accepted, crate::specs::Accepted::read_rebuilds))]
+#[tactic(auto, using(sets::proofs::Alike::asked_back), unfolding(crate::specs::Accepted::accepted, crate::specs::Accepted::read_rebuilds))]
 pub fn accepts(form: Form, a: &[u16], rec: &[u8], committed: &[u16]) -> bool
     ensures { result ≡ accepted form a.now rec.now committed.now }
 {
     let mut z1 = [0i16; Set::DIMENSION];
     let mut z2 = [0i8; Set::DIMENSION];
     let mut list = [0u16; Set::LIST_LIMIT];
-    let reading = records::read(form, rec, &mut z1, &mut z2, &mut list);
-    let read = reading.outcome;
-    if !read.is_done() {
+    let Ok(reading) = records::read(form, rec, &mut z1, &mut z2, &mut list) else {
         return false;
-    }
-    match Set::asked(reading.set) {
-        Asked::Unknown => false,
-        Asked::Known(s) => {
-            let kappa = s.kappa();
-            rebuilds(a, reading.set, &z1, &z2, &list[..kappa], committed)
-        }
-    }
+    };
+    let kappa = reading.set.kappa();
+    rebuilds(a, reading.set.number(), &z1, &z2, &list[..kappa], committed)
 }
 
 // Which key signed: the key number that a record states, 0 where the reader refuses it.
@@ -45,8 +36,7 @@ pub fn key_read(form: Form, rec: &[u8]) -> u32
     let mut z1 = [0i16; Set::DIMENSION];
     let mut z2 = [0i8; Set::DIMENSION];
     let mut list = [0u16; Set::LIST_LIMIT];
-    let reading = records::read(form, rec, &mut z1, &mut z2, &mut list);
-    reading.key
+    records::read(form, rec, &mut z1, &mut z2, &mut list).map_or(0, |reading| reading.key)
 }
 
 // The comparison of the list with itself, and the rebuild.
@@ -54,32 +44,16 @@ pub fn key_read(form: Form, rec: &[u8]) -> u32
 fn rebuilds(a: &[u16], set: u32, z1: &[i16], z2: &[i8], list: &[u16], committed: &[u16]) -> bool
     ensures { result ≡ rebuildsTo a.now set (claim z1.now z2.now list.now) committed.now }
 {
-    let compared = checking::comparison(set, list, list);
-    if !compared.is_done() {
-        return false;
-    }
     let mut restored = [0u16; Set::DIMENSION];
-    let rebuilt = checking::rebuild(set, a, z1, z2, list, &mut restored);
-    if !rebuilt.is_done() {
-        return false;
-    }
-    is_same(&restored, committed)
-}
-
-// Whether two vectors of any lengths are the same.
-#[tactic(auto, using(crate::proofs::Answers::longer))]
-fn is_same(x: &[u16], y: &[u16]) -> bool
-    ensures { result ≡ same x.now y.now }
-{
-    if x.len() != y.len() {
-        return false;
-    }
-    checking::same(x, y)
+    checking::comparison(set, list, list).is_ok()
+        && checking::rebuild(set, a, z1, z2, list, &mut restored).is_ok()
+        && checking::same(&restored, committed)
 }
 
 // ---- the signer
 
-// Signs, commits and writes the record to the front of an output. The outcome is the first refusal of the three.
+// Signs, commits and writes the record to the front of an output. The outcome is the first refusal of the three. docs/PROMISES.md names this call, whose
+// parameters are those of the response, one by one, and the two outputs.
 #[tactic(auto, unfolding(crate::specs::Accepted::sent_after))]
 pub fn send(
     form: Form,
@@ -118,22 +92,21 @@ pub fn send(
     let response = signing::respond(
         set, key, f, g, a, y1, y2, list, sign, thresholds, words, &mut z1, &mut z2,
     );
-    let outcome = response.outcome;
-    if !outcome.is_done() {
+    if response.outcome.is_err() {
         return response;
     }
-    let refusal = commitment::commitment(set, a, y1, y2, committed);
-    if !refusal.is_done() {
+    let committing = commitment::commitment(set, a, y1, y2, committed);
+    if committing.is_err() {
         return Response {
-            outcome: refusal,
+            outcome: committing,
             words: response.words,
             key: 0,
         };
     }
-    let written = records::write(form, set, response.key, &z1, &z2, list, out);
+    let outcome = records::write(form, set, response.key, &z1, &z2, list, out);
     Response {
-        outcome: written,
+        outcome,
         words: response.words,
-        key: written.key_with(response.key),
+        key: answers::key_with(outcome, response.key),
     }
 }

@@ -1,29 +1,53 @@
 -- The ways on through a call: the set that was asked for, and an outcome that refuses or does not. Assumes nothing.
 use mathlib.Core.Path.{◌≡◌, refl, sym, ap, ◌∙◌}
-use mathlib.Core.Bool.{Bool, true, false, not}
+use mathlib.Core.Bool.{Bool, true, false}
 use mathlib.Core.List.{List}
 use Prim.Native.Nat.{ℕ}
-use borrow.Author.Tests.{not-true, not-false, eq-eqb}
+use borrow.Author.Tests.{eq-eqb}
 use Rattle.laws.specs.Refusals.{must}
 use Rattle.laws.proofs.Chain as Chain
 use Rattle.sets.specs.declared.Set.{Set}
-use Rattle.sets.specs.declared.Asked.{Asked}
-use Rattle.sets.specs.declared.Asked.TheVariants.{Known, Unknown}
-use Rattle.answers.specs.declared.Outcome.{Outcome}
-use Rattle.answers.specs.declared.Outcome.TheVariants.{Done, UnknownSet, WrongLength, CoefficientOutside, MaskOutside, ImproperList, RelationBroken, KeyTooLong, DrawRejected, WordMissing, EntryBeyond, SumAbove, ListsDiffer, HeaderMalformed, OutputShort, CountsWrong}
-use Rattle.answers.specs.Outcomes.{number_of, is_done, unless, for_set, filled}
+use Rattle.std.specs.Prelude.{Option, Some, None, Ok, Err, IsErrAnd}
+use Rattle.answers.specs.declared.Refusal.{Refusal}
+use Rattle.answers.specs.declared.Refusal.TheVariants.{UnknownSet, WrongLength, CoefficientOutside, MaskOutside, ImproperList, RelationBroken, KeyTooLong, DrawRejected, WordMissing, EntryBeyond, SumAbove, ListsDiffer, HeaderMalformed, OutputShort, CountsWrong}
+use Rattle.answers.specs.Outcomes.{Outcome, Done, number_of, is_done, unless, for_set, filled}
+
+-- no refusal has the number 0
+pub refusal_is : (e : Refusal) → is_done (Err e) ≡ false
+refusal_is e = elim e as (λ k. is_done (Err k) ≡ false) [
+  | UnknownSet ↦ refl
+  | WrongLength ↦ refl
+  | CoefficientOutside ↦ refl
+  | MaskOutside ↦ refl
+  | ImproperList ↦ refl
+  | RelationBroken ↦ refl
+  | KeyTooLong ↦ refl
+  | DrawRejected ↦ refl
+  | WordMissing ↦ refl
+  | EntryBeyond place ↦ refl
+  | SumAbove ↦ refl
+  | ListsDiffer ↦ refl
+  | HeaderMalformed place ↦ refl
+  | OutputShort ↦ refl
+  | CountsWrong ↦ refl
+]
+
+-- the refusal that a `?` hands on
+pub handed_on : (r : Outcome) (e : Refusal) → IsErrAnd r (λ y. y ≡ e) → r ≡ Err e
+handed_on (Ok done) e h = absurd h
+handed_on (Err refusal) e h = ap Err h
 
 module _ {ℓ} {A : Type ℓ} where
-  pub refused : (r : Bool) (o s : Outcome) (answer : Outcome → A) (x next : A) → o ≡ s → r ≡ is_done o → not r ≡ true → x ≡ answer o → x ≡ unless s answer next
-  refused r o s answer x next e f t h = rw (← e, sym f ∙ not-true r t) h
+  pub refused : (o s : Outcome) (e : Refusal) (answer : Outcome → A) (x next : A) → o ≡ s → o ≡ Err e → x ≡ answer (Err e) → x ≡ unless s answer next
+  refused o s e answer x next f g h = rw (← f, g, refusal_is e) h
 
-  pub admitted : (r : Bool) (o s : Outcome) (answer : Outcome → A) (x next : A) → o ≡ s → r ≡ is_done o → not r ≡ false → x ≡ next → x ≡ unless s answer next
-  admitted r o s answer x next e f t h = rw (← e, sym f ∙ not-false r t) h
+  pub admitted : (o s : Outcome) (answer : Outcome → A) (x next : A) → o ≡ s → o ≡ Done → x ≡ next → x ≡ unless s answer next
+  admitted o s answer x next f g h = rw (← f, g) h
 
-  pub unknown : (r s : Asked) (x refusal : A) (next : Set → A) → r ≡ s → r ≡ Unknown → x ≡ refusal → x ≡ for_set s refusal next
+  pub unknown : (r s : Option Set) (x refusal : A) (next : Set → A) → r ≡ s → r ≡ None → x ≡ refusal → x ≡ for_set s refusal next
   unknown r s x refusal next e f h = rw (sym e ∙ f) h
 
-  pub known : (r s : Asked) (m : Set) (x refusal : A) (next : Set → A) → r ≡ s → r ≡ Known m → x ≡ next m → x ≡ for_set s refusal next
+  pub known : (r s : Option Set) (m : Set) (x refusal : A) (next : Set → A) → r ≡ s → r ≡ Some m → x ≡ next m → x ≡ for_set s refusal next
   known r s m x refusal next e f h = rw (sym e ∙ f) h
 
 -- a vector that was written
@@ -32,22 +56,8 @@ filled_at o x y e = ap (filled o) e
 
 -- the only outcome that is done
 pub done_is : (o : Outcome) → is_done o ≡ true → o ≡ Done
-done_is Done e = refl
-done_is UnknownSet e = absurd (Chain.differ e)
-done_is WrongLength e = absurd (Chain.differ e)
-done_is CoefficientOutside e = absurd (Chain.differ e)
-done_is MaskOutside e = absurd (Chain.differ e)
-done_is ImproperList e = absurd (Chain.differ e)
-done_is RelationBroken e = absurd (Chain.differ e)
-done_is KeyTooLong e = absurd (Chain.differ e)
-done_is DrawRejected e = absurd (Chain.differ e)
-done_is WordMissing e = absurd (Chain.differ e)
-done_is (EntryBeyond place) e = absurd (Chain.differ e)
-done_is SumAbove e = absurd (Chain.differ e)
-done_is ListsDiffer e = absurd (Chain.differ e)
-done_is (HeaderMalformed place) e = absurd (Chain.differ e)
-done_is OutputShort e = absurd (Chain.differ e)
-done_is CountsWrong e = absurd (Chain.differ e)
+done_is (Ok done) e = refl
+done_is (Err refusal) e = absurd (Chain.differ (sym (refusal_is refusal) ∙ e))
 
 -- the number 0 is that of Done alone
 pub zero_is : (o : Outcome) → number_of o ≡ 0 → o ≡ Done

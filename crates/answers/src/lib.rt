@@ -4,11 +4,10 @@
 pub mod sizes;
 
 ghost use Rattle.std.specs.Prelude.{◌≡◌};
-ghost use Rattle.answers.specs.Outcomes.{number_of, place_of, is_done, key_with};
+ghost use Rattle.answers.specs.Outcomes.{number_of, place_of, refusal_number_of, refusal_place_of, key_with};
 
-#[derive(Clone, Copy)]
-pub enum Outcome {
-    Done,
+#[derive(Clone, Copy, Debug, PartialEq, Eq)]
+pub enum Refusal {
     UnknownSet,
     WrongLength,
     CoefficientOutside,
@@ -26,63 +25,65 @@ pub enum Outcome {
     CountsWrong,
 }
 
-impl Outcome {
+// What a call comes to.
+pub type Outcome = Result<(), Refusal>;
+
+impl Refusal {
+    // By cases: two refusals carry a place, so that a cast has no meaning.
     pub fn number(self) -> u32
-        ensures { result ≡ number_of self }
+        ensures { result ≡ refusal_number_of self }
     {
         match self {
-            Outcome::Done => 0,
-            Outcome::UnknownSet => 1,
-            Outcome::WrongLength => 2,
-            Outcome::CoefficientOutside => 3,
-            Outcome::MaskOutside => 4,
-            Outcome::ImproperList => 5,
-            Outcome::RelationBroken => 6,
-            Outcome::KeyTooLong => 7,
-            Outcome::DrawRejected => 8,
-            Outcome::WordMissing => 9,
-            Outcome::EntryBeyond(_) => 10,
-            Outcome::SumAbove => 11,
-            Outcome::ListsDiffer => 12,
-            Outcome::HeaderMalformed(_) => 13,
-            Outcome::OutputShort => 14,
-            Outcome::CountsWrong => 15,
+            Refusal::UnknownSet => 1,
+            Refusal::WrongLength => 2,
+            Refusal::CoefficientOutside => 3,
+            Refusal::MaskOutside => 4,
+            Refusal::ImproperList => 5,
+            Refusal::RelationBroken => 6,
+            Refusal::KeyTooLong => 7,
+            Refusal::DrawRejected => 8,
+            Refusal::WordMissing => 9,
+            Refusal::EntryBeyond(_) => 10,
+            Refusal::SumAbove => 11,
+            Refusal::ListsDiffer => 12,
+            Refusal::HeaderMalformed(_) => 13,
+            Refusal::OutputShort => 14,
+            Refusal::CountsWrong => 15,
         }
     }
 
     pub fn place(self) -> u32
-        ensures { result ≡ place_of self }
+        ensures { result ≡ refusal_place_of self }
     {
         match self {
-            Outcome::EntryBeyond(place) => place,
-            Outcome::HeaderMalformed(place) => place,
-            Outcome::Done => 0,
-            Outcome::UnknownSet => 0,
-            Outcome::WrongLength => 0,
-            Outcome::CoefficientOutside => 0,
-            Outcome::MaskOutside => 0,
-            Outcome::ImproperList => 0,
-            Outcome::RelationBroken => 0,
-            Outcome::KeyTooLong => 0,
-            Outcome::DrawRejected => 0,
-            Outcome::WordMissing => 0,
-            Outcome::SumAbove => 0,
-            Outcome::ListsDiffer => 0,
-            Outcome::OutputShort => 0,
-            Outcome::CountsWrong => 0,
+            Refusal::EntryBeyond(place) => place,
+            Refusal::HeaderMalformed(place) => place,
+            _ => 0,
         }
     }
+}
 
-    pub fn is_done(self) -> bool
-        ensures { result ≡ is_done self }
-    {
-        self.number() == 0
+pub fn number(outcome: Outcome) -> u32
+    ensures { result ≡ number_of outcome }
+{
+    match outcome {
+        Ok(()) => 0,
+        Err(refusal) => refusal.number(),
     }
+}
 
-    // The key number that comes back: 0 with a refusal (02, C-13).
-    pub fn key_with(self, key: u32) -> u32
-        ensures { result ≡ key_with self key }
-    {
-        if self.is_done() { key } else { 0 }
+pub fn place(outcome: Outcome) -> u32
+    ensures { result ≡ place_of outcome }
+{
+    match outcome {
+        Ok(()) => 0,
+        Err(refusal) => refusal.place(),
     }
+}
+
+// The key number that comes back: 0 with a refusal (02, C-13).
+pub fn key_with(outcome: Outcome, key: u32) -> u32
+    ensures { result ≡ key_with outcome key }
+{
+    if outcome.is_ok() { key } else { 0 }
 }

@@ -3,16 +3,13 @@ ghost use Rattle.std.specs.Prelude.{◌≡◌};
 ghost use Rattle.sets.specs.Numbers.{kappa_of};
 ghost use Rattle.answers.specs.Sizes.{kappa_asked};
 
-use sets::{Asked, Set};
+use sets::Set;
 
 // The places of a list of the set that a number asks for; 0 where there is no such set.
 pub fn kappa(set: u32) -> u32
     ensures { result ≡ kappa_asked set }
 {
-    match Set::asked(set) {
-        Asked::Unknown => 0,
-        Asked::Known(s) => kappa_of(s),
-    }
+    Set::asked(set).map_or(0, kappa_of)
 }
 
 fn kappa_of(s: Set) -> u32

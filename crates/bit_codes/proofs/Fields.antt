@@ -1,13 +1,13 @@
 -- What the code asks that takes bits out of three digits. Assumes nothing.
 use mathlib.Core.Path.{◌≡◌, ap, ap₂, ◌∙◌}
 use Prim.Native.Nat.{ℕ, ◌+◌, ◌*◌, ◌/◌, ◌%◌, ◌^◌, ◌<◌, ◌≤◌}
-use native.Mathlib.Nat.{add_comm, one-mul, lt_of_lt_of_le, mul-le-mul_left, div-lt_iff_lt-mul, mod-lt}
+use native.Mathlib.Nat.{add_comm, one-mul, lt_of_lt_of_le}
 use native.Mathlib.Omega.{arith}
 use mir.Syntax.{w64}
 use mir.Val.{Fits}
 use lib.Arith.{digits_lt}
 use lib.Dec.{lit<}
-use lib.Pow.{pow_pos, pow_mono, pow-add, shl_exact}
+use lib.Pow.{pow_mono, pow-add, shl_exact}
 
 -- a number and another above it
 joined_below : (v k : ℕ) {a b : ℕ} → a < 2 ^ v → b < 2 ^ k → a + b * 2 ^ v < 2 ^ (k + v)
@@ -23,12 +23,6 @@ second_exact : (b c v : ℕ) → b < 2 ^ v → c < 2 ^ v → v ≤ 16 → (b + c
 second_exact b c v hb hc hv =
     ap (λ (n : ℕ). (b + n) * 2 ^ v % 2 ^ 64) (first_exact c v hc hv) ∙ shl_exact (v + v) v 64 (first_below b c v hb hc) (omega arith)
 
--- each sum fits, whichever digits are joined
-pub first_fits : (b c v : ℕ) → b < 2 ^ v → c < 2 ^ v → v ≤ 16 → Fits w64 (b + c * 2 ^ v % 2 ^ 64)
-first_fits b c v hb hc hv =
-    let most : v + v ≤ 64 = omega arith in
-    record { fits = rw (first_exact c v hc hv) (lt_of_lt_of_le (first_below b c v hb hc) (pow_mono most)) }
-
 pub second_fits : (a b c v : ℕ) → a < 2 ^ v → b < 2 ^ v → c < 2 ^ v → v ≤ 16 → Fits w64 (a + (b + c * 2 ^ v % 2 ^ 64) * 2 ^ v % 2 ^ 64)
 second_fits a b c v ha hb hc hv =
     let most : v + v + v ≤ 64 = omega arith in
@@ -42,17 +36,3 @@ taken a b c v s w hb hc hv hw =
 -- a mask of w bits
 pub mask_is : (w : ℕ) → w ≤ 16 → 1 * 2 ^ w % 2 ^ 64 ≡ 2 ^ w
 mask_is w hw = shl_exact 1 w 64 (lit< tt) (omega arith) ∙ one-mul (2 ^ w)
-
-pub mask_pos : (w : ℕ) → w ≤ 16 → 0 < 1 * 2 ^ w % 2 ^ 64
-mask_pos w hw = rw (mask_is w hw) (pow_pos w)
-
--- so many bits fit 16
-pub bits_fit : (w x : ℕ) → w ≤ 16 → x % 2 ^ w < 2 ^ 16
-bits_fit w x hw = lt_of_lt_of_le (mod-lt x (pow_pos w)) (pow_mono hw)
-
--- the digit that a bit stands in leaves room for two more
-pub quotient_below : (at w : ℕ) → at < 2 ^ 64 → 4 ≤ w → at / w < 2 ^ 62
-quotient_below at w h k =
-    let positive : 0 < w = omega arith in
-    let most : 2 ^ 62 * 4 ≤ 2 ^ 62 * w = mul-le-mul_left (2 ^ 62) k in
-    (div-lt_iff_lt-mul positive).1 (lt_of_lt_of_le h most)

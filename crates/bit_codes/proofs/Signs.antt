@@ -62,10 +62,14 @@ map_back f g [] d at = refl
 map_back f g (x ∷ l) d at = ap₂ ◌∷◌ (at 0) (map_back f g l d (λ k. at (suc k)))
 
 module _ (w count : ℕ) where
+  pub codes_below : {A : Type 0} (value : A → ℤ) (none : A) (entries : List A) → ((k : ℕ) → 2 * nat_abs (value (get_or entries k none)) < 2 ^ w) → (k : ℕ)
+      → get_or (map (λ (x : A). complement w (value x)) entries) k 0 < 2 ^ w
+  codes_below value none [] small k = pow_pos w
+  codes_below value none (x ∷ entries) small zero = complement_below w (value x) (small 0)
+  codes_below value none (x ∷ entries) small (suc k) = codes_below value none entries (λ j. small (suc j)) k
+
   pub complements_below : (entries : List ℤ) → ((k : ℕ) → 2 * nat_abs (get_or entries k (pos 0)) < 2 ^ w) → (k : ℕ) → get_or (map (complement w) entries) k 0 < 2 ^ w
-  complements_below [] small k = pow_pos w
-  complements_below (z ∷ entries) small zero = complement_below w z (small 0)
-  complements_below (z ∷ entries) small (suc k) = complements_below entries (λ j. small (suc j)) k
+  complements_below = codes_below (λ (z : ℤ). z) (pos 0)
 
   pub numbers_back : (entries : List ℤ) → length entries ≡ count → ((k : ℕ) → 2 * nat_abs (get_or entries k (pos 0)) < 2 ^ w)
       → map (from_complement w) (unpacked_bits w count (packed_bits w count (map (complement w) entries))) ≡ entries

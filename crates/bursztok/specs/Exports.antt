@@ -1,7 +1,6 @@
 -- What the exports leave behind: the outcome's number and place in C's structs, beside what the calls' own definitions say of the memory.
 use Rattle.std.specs.Prelude.{cond, List, ℕ, ◌-◌, eqb, ℤ, length}
-use Rattle.answers.specs.declared.Outcome.{Outcome}
-use Rattle.answers.specs.Outcomes.{number_of, place_of, Filled, filled}
+use Rattle.answers.specs.Outcomes.{Outcome, number_of, place_of, Filled, filled}
 use Rattle.commitment.specs.Commitment.{WithRests, with_rests}
 use Rattle.signing.specs.Response.{Responded, responded}
 use Rattle.record_forms.specs.Sections.{Fetched, fetched}

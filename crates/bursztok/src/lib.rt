@@ -1,4 +1,5 @@
-// The calls as C has them, with the answer as numbers: the crate `bursztok_c` exports each, and include/bursztok.h declares them.
+// The calls as C has them, with the answer as numbers: the crate `bursztok_c` exports each, and include/bursztok.h declares them. So the calls, their
+// parameters, the structs and the lent numbers are the header's. (std has no From of a `usize` for its counts.)
 #![tactic(auto)]
 
 ghost use Rattle.std.specs.Prelude.{◌≡◌, length};
@@ -11,11 +12,11 @@ ghost use Rattle.record_forms.specs.declared.Form.TheVariants.{Plain, Packed};
 ghost use Rattle.record_forms.specs.Sizes.{record_bytes_asked};
 ghost use Rattle.record_forms.specs.Sections.{z1_section, z2_section, list_section};
 ghost use Rattle.records.specs.Writer.{offered, writing_of};
-ghost use Rattle.records.specs.Reader.{buffers, reading_of};
+ghost use Rattle.records.specs.Reader.{buffers, reading_of, outcome_of, set_told, key_told};
 ghost use Rattle.records.specs.Conversion.{conversion_of};
 ghost use Rattle.bursztok.specs.Exports.{answer_of, left, left_by, left_with_rests, left_with_rests_by, response_with, replied, replied_by, reading_with, stored, stored_by, part_at, located, located_by};
 
-use answers::Outcome;
+use answers::{Outcome, Refusal};
 use record_forms::{Form, LIST_OFFSET, Z1_OFFSET, Z2_OFFSET};
 
 #[repr(C)]
@@ -56,13 +57,13 @@ pub struct Part {
 pub fn bursztok_key_test(set: u32, f: &[i8], g: &[i8], a: &[u16]) -> Answer
     ensures { result ≡ answer_of (key_test set f.now g.now a.now) }
 {
-    answered(keys::key_test(set, f, g, a))
+    Answer::from(keys::key_test(set, f, g, a))
 }
 
 pub fn bursztok_commitment(set: u32, a: &[u16], y1: &[i16], y2: &[i16], out: &mut [u16]) -> Answer
     ensures { left result out.new ≡ left_by (commitment set a.now y1.now y2.now out.old) }
 {
-    answered(commitment::commitment(set, a, y1, y2, out))
+    Answer::from(commitment::commitment(set, a, y1, y2, out))
 }
 
 pub fn bursztok_commitment_with_rests(
@@ -76,7 +77,7 @@ pub fn bursztok_commitment_with_rests(
     ensures { left_with_rests result out.new rests.new
         ≡ left_with_rests_by (commitment_with_rests set a.now y1.now y2.now (outputs out.old rests.old)) }
 {
-    answered(commitment::commitment_with_rests(set, a, y1, y2, out, rests))
+    Answer::from(commitment::commitment_with_rests(set, a, y1, y2, out, rests))
 }
 
 pub fn bursztok_respond(
@@ -109,7 +110,7 @@ pub fn bursztok_respond(
           z2 = z2.old;
         })) }
 {
-    respond_answer(signing::respond(
+    Response::from(signing::respond(
         set, key, f, g, a, y1, y2, list, sign, thresholds, words, z1, z2,
     ))
 }
@@ -124,13 +125,13 @@ pub fn bursztok_rebuild(
 ) -> Answer
     ensures { left result out.new ≡ left_by (rebuild set a.now (claim z1.now z2.now list.now) out.old) }
 {
-    answered(checking::rebuild(set, a, z1, z2, list, out))
+    Answer::from(checking::rebuild(set, a, z1, z2, list, out))
 }
 
 pub fn bursztok_compare(set: u32, claimed: &[u16], hashed: &[u16]) -> Answer
     ensures { result ≡ answer_of (comparison set claimed.now hashed.now) }
 {
-    answered(checking::comparison(set, claimed, hashed))
+    Answer::from(checking::comparison(set, claimed, hashed))
 }
 
 // The rebuild and the comparison that keep the old default: 0 stands for set 1 (02, C-17).
@@ -144,13 +145,13 @@ pub fn bursztok_rebuild_default_one(
 ) -> Answer
     ensures { left result out.new ≡ left_by (rebuild_default_one set a.now (claim z1.now z2.now list.now) out.old) }
 {
-    answered(checking::rebuild_default_one(set, a, z1, z2, list, out))
+    Answer::from(checking::rebuild_default_one(set, a, z1, z2, list, out))
 }
 
 pub fn bursztok_compare_default_one(set: u32, claimed: &[u16], hashed: &[u16]) -> Answer
     ensures { result ≡ answer_of (comparison_default_one set claimed.now hashed.now) }
 {
-    answered(checking::comparison_default_one(set, claimed, hashed))
+    Answer::from(checking::comparison_default_one(set, claimed, hashed))
 }
 
 pub fn bursztok_write(
@@ -163,13 +164,13 @@ pub fn bursztok_write(
 ) -> Answer
     ensures { left result out.new ≡ left_by (writing_of Plain (offered set key z1.now z2.now list.now) out.old) }
 {
-    answered(records::write(Form::Plain, set, key, z1, z2, list, out))
+    Answer::from(records::write(Form::Plain, set, key, z1, z2, list, out))
 }
 
 pub fn bursztok_read(rec: &[u8], z1: &mut [i16], z2: &mut [i8], list: &mut [u16]) -> Reading
     ensures { stored result z1.new z2.new list.new ≡ stored_by (reading_of Plain rec.now (buffers z1.old z2.old list.old)) }
 {
-    read_answer(records::read(Form::Plain, rec, z1, z2, list))
+    Reading::from(records::read(Form::Plain, rec, z1, z2, list))
 }
 
 // The packed form, and the conversions to it and from it (02, C-11).
@@ -183,25 +184,25 @@ pub fn bursztok_write_packed(
 ) -> Answer
     ensures { left result out.new ≡ left_by (writing_of Packed (offered set key z1.now z2.now list.now) out.old) }
 {
-    answered(records::write(Form::Packed, set, key, z1, z2, list, out))
+    Answer::from(records::write(Form::Packed, set, key, z1, z2, list, out))
 }
 
 pub fn bursztok_read_packed(rec: &[u8], z1: &mut [i16], z2: &mut [i8], list: &mut [u16]) -> Reading
     ensures { stored result z1.new z2.new list.new ≡ stored_by (reading_of Packed rec.now (buffers z1.old z2.old list.old)) }
 {
-    read_answer(records::read(Form::Packed, rec, z1, z2, list))
+    Reading::from(records::read(Form::Packed, rec, z1, z2, list))
 }
 
 pub fn bursztok_pack(rec: &[u8], out: &mut [u8]) -> Answer
     ensures { left result out.new ≡ left_by (conversion_of Plain Packed rec.now out.old) }
 {
-    answered(records::convert(Form::Plain, Form::Packed, rec, out))
+    Answer::from(records::convert(Form::Plain, Form::Packed, rec, out))
 }
 
 pub fn bursztok_unpack(rec: &[u8], out: &mut [u8]) -> Answer
     ensures { left result out.new ≡ left_by (conversion_of Packed Plain rec.now out.old) }
 {
-    answered(records::convert(Form::Packed, Form::Plain, rec, out))
+    Answer::from(records::convert(Form::Packed, Form::Plain, rec, out))
 }
 
 #[tactic(auto, using(crate::proofs::Answers::located_at))]
@@ -228,36 +229,48 @@ pub fn bursztok_list_section(rec: &[u8], number: &mut u32, place: &mut u32) -> P
     part_at(*number, LIST_OFFSET, part)
 }
 
-fn answered(outcome: Outcome) -> Answer
-    ensures { result ≡ answer_of outcome }
-{
-    Answer {
-        number: outcome.number(),
-        place: outcome.place(),
+impl From<Outcome> for Answer {
+    ghost from_gives = { λ outcome answer. answer ≡ answer_of outcome };
+
+    fn from(outcome: Outcome) -> Answer {
+        Answer {
+            number: answers::number(outcome),
+            place: answers::place(outcome),
+        }
     }
 }
 
-fn respond_answer(r: signing::Response) -> Response
-    ensures { result ≡ response_with r.outcome r.words r.key }
-{
-    let o = r.outcome;
-    Response {
-        number: o.number(),
-        place: o.place(),
-        words: r.words as u64,
-        key: r.key,
+impl From<signing::Response> for Response {
+    ghost from_gives = { λ given response. response ≡ response_with given.outcome given.words given.key };
+
+    fn from(given: signing::Response) -> Response {
+        Response {
+            number: answers::number(given.outcome),
+            place: answers::place(given.outcome),
+            words: given.words as u64,
+            key: given.key,
+        }
     }
 }
 
-fn read_answer(r: records::Reading) -> Reading
-    ensures { result ≡ reading_with r.outcome r.set r.key }
-{
-    let o = r.outcome;
-    Reading {
-        number: o.number(),
-        place: o.place(),
-        set: r.set,
-        key: r.key,
+impl From<Result<records::Reading, Refusal>> for Reading {
+    ghost from_gives = { λ read reading. reading ≡ reading_with (outcome_of read) (set_told read) (key_told read) };
+
+    fn from(read: Result<records::Reading, Refusal>) -> Reading {
+        match read {
+            Ok(reading) => Reading {
+                number: 0,
+                place: 0,
+                set: reading.set.number(),
+                key: reading.key,
+            },
+            Err(refusal) => Reading {
+                number: refusal.number(),
+                place: refusal.place(),
+                set: 0,
+                key: 0,
+            },
+        }
     }
 }
 
@@ -265,16 +278,10 @@ fn read_answer(r: records::Reading) -> Reading
 fn part_at(number: u32, offset: usize, part: &[u8]) -> Part
     ensures { result ≡ part_at number offset (length part.now) }
 {
-    if number == 0 {
-        Part {
-            start: offset as u64,
-            length: part.len() as u64,
-        }
-    } else {
-        Part {
-            start: 0,
-            length: part.len() as u64,
-        }
+    let start = if number == 0 { offset as u64 } else { 0 };
+    Part {
+        start,
+        length: part.len() as u64,
     }
 }
 

@@ -1,4 +1,5 @@
-// The C library: each export is a call of the crate `bursztok` with its clauses. include/bursztok.h declares the same names for C.
+// The C library: each export is a call of the crate `bursztok` with its clauses. include/bursztok.h declares the same names for C. The two crates are two
+// because no crate of Rattle can take a static library.
 #![tactic(auto)]
 
 ghost use Rattle.std.specs.Prelude.{◌≡◌, length};

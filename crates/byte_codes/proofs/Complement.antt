@@ -1,19 +1,12 @@
--- Two's complement, once for every width: what the code asks that makes it and that reads it, and the way there and back. Assumes nothing.
-use mathlib.Core.Path.{◌≡◌, refl, sym, ap, ◌∙◌}
-use mathlib.Core.Bool.{true, false}
-use Prim.Native.Nat.{ℕ, suc, ◌*◌, ◌-◌, ◌^◌, ◌<◌, ◌≤◌}
-use native.Mathlib.Omega.{arith}
-use borrow.Author.Tests.{lt-ltb, le-ltb}
-use lib.Dec.{T, ltb}
-use lib.IntN.{ℤ, pos, negsuc, nat_abs, ◌-ℤ◌}
-use lib.Pow.{pow_pos}
-use lib.Signed.{non_neg, lt_z}
-use mir.Syntax.{Width}
-use mir.Val.{SFits, Fits, bits, hbits, to_z, of_z}
-use mir.ValLaws.{pow-bits, to_z_pos, to_z-neg}
-use Rattle.laws.proofs.Linear.{above, under, size, difference, eq_out, lt_yes, lt_no, nonneg}
-use Rattle.laws.proofs.Bounds.{cond_ind, abs_mag}
-use Rattle.laws.proofs.Machine.{Reads, given, positive, fits, operation_ok, operation_is, unsigned_ok, unsigned_is, lt_is}
+-- Two's complement, once for every width: the way there and back, and that it is std's. Assumes nothing.
+use Rattle.std.proofs.Common.{◌≡◌, refl, sym, ap, ◌∙◌, Bool, true, false, ℕ, suc, ◌*◌, ◌-◌, ◌^◌, ◌<◌, ◌≤◌, arith}
+use Rattle.std.specs.Int.{Width, cast_signed, cast_unsigned}
+use borrow.Author.Tests.{lt-ltb, le-ltb, ltb-true, ltb-false}
+use lib.Dec.{ltb}
+use lib.IntN.{ℤ, pos, negsuc, nat_abs}
+use mir.Val.{bits, hbits, sel}
+use mir.ValLaws.{pow-bits}
+use Rattle.laws.proofs.Bounds.{cond_ind}
 use Rattle.byte_codes.specs.Bytes.{complement, from_complement}
 
 -- ---- there and back, in any number of binary digits
@@ -44,97 +37,15 @@ module _ (bits : ℕ) where
   complement_below (pos n) h = omega arith
   complement_below (negsuc n) h = omega arith
 
-  complement_under : (z : ℤ) → above z < under z → complement bits z ≡ 2 ^ bits - under z
-  unfolding complement
-  complement_under (pos n) h = absurd (none n h)
-    where
-      none : (n : ℕ) → n < 0 → ⊥
-      none n h = omega arith
-  complement_under (negsuc n) h = refl
+-- ---- std's words for it
+pub cast_complement : (w : Width) (z : ℤ) → cast_unsigned w z ≡ complement (bits w) z
+unfolding complement
+cast_complement w (pos n) = refl
+cast_complement w (negsuc n) = refl
 
-  complement_above : (z : ℤ) → under z ≤ above z → nat_abs z ≡ complement bits z
-  unfolding complement
-  complement_above (pos n) h = refl
-  complement_above (negsuc n) h = absurd (none n h)
-    where
-      none : (n : ℕ) → suc n ≤ 0 → ⊥
-      none n h = omega arith
-
--- ---- in the code, where -1 - a is not negative for a negative a
-minus_one : (w : Width) → Reads w (2 ^ bits w - 1) (negsuc 0)
-minus_one w = record { back = to_z-neg w 0 (pow_pos (hbits w)) }
-
-one_less : (z : ℤ) → above z < under z → negsuc 0 -ℤ z ≡ pos (under z - 1)
-one_less (pos n) h = absurd (none n h)
+pub cast_from_complement : (w : Width) (x : ℕ) → cast_signed w x ≡ from_complement (bits w) x
+cast_from_complement w x = of (ltb x (2 ^ hbits w)) refl
   where
-    none : (n : ℕ) → n < 0 → ⊥
-    none n h = omega arith
-one_less (negsuc n) h = eq_out _ _ (omega (arith, difference (negsuc 0) (negsuc n)))
-
--- making it of a number that the width holds
-module _ {w : Width} {a : ℤ} (fit : SFits w a) where
-  here : Reads w (of_z w a) a
-  here = given fit
-
-  zero_is : Reads w 0 (pos 0)
-  zero_is = positive w 0 (pow_pos (hbits w))
-
-  small : nat_abs a ≤ 2 ^ hbits w
-  small = omega (arith, abs_mag a, fit.sfits)
-
-  module _ (below : lt_z (to_z w (of_z w a)) (to_z w 0) ≡ true) where
-    negative : above a < under a
-    negative = omega (arith, lt_yes a (pos 0) (lt_is here zero_is below))
-
-    flipped : negsuc 0 -ℤ a ≡ pos (under a - 1)
-    flipped = one_less a negative
-
-    flip_fits : SFits w (negsuc 0 -ℤ a)
-    flip_fits = fits (rw flipped (omega (arith, negative, size a, small)))
-
-    pub flip_ok : SFits w (to_z w (2 ^ bits w - 1) -ℤ to_z w (of_z w a))
-    flip_ok = operation_ok (minus_one w) here ◌-ℤ◌ flip_fits
-
-    flip_is : Reads w (of_z w (to_z w (2 ^ bits w - 1) -ℤ to_z w (of_z w a))) (pos (under a - 1))
-    flip_is = record { back = (operation_is (minus_one w) here ◌-ℤ◌ flip_fits).back ∙ flipped }
-
-    pub flip_unsigned : T (non_neg (to_z w (of_z w (to_z w (2 ^ bits w - 1) -ℤ to_z w (of_z w a))))) × Fits w (nat_abs (to_z w (of_z w (to_z w (2 ^ bits w - 1) -ℤ to_z w (of_z w a)))))
-    flip_unsigned = unsigned_ok flip_is w tt (omega (arith, negative, size a, small, pow-bits w))
-
-    pub flip_below : nat_abs (to_z w (of_z w (to_z w (2 ^ bits w - 1) -ℤ to_z w (of_z w a)))) ≤ 2 ^ bits w - 1
-    flip_below = omega (arith, flip_unsigned.1.fits)
-
-    pub flip_complement : 2 ^ bits w - 1 - nat_abs (to_z w (of_z w (to_z w (2 ^ bits w - 1) -ℤ to_z w (of_z w a)))) ≡ complement (bits w) a
-    flip_complement = omega (arith, negative, unsigned_is flip_is, complement_under (bits w) a negative)
-
-  module _ (not-below : lt_z (to_z w (of_z w a)) (to_z w 0) ≡ false) where
-    not_negative : under a ≤ above a
-    not_negative = omega (arith, lt_no a (pos 0) (lt_is here zero_is not-below))
-
-    pub plain_unsigned : T (non_neg (to_z w (of_z w a))) × Fits w (nat_abs (to_z w (of_z w a)))
-    plain_unsigned = unsigned_ok here w (nonneg a not_negative) (omega (arith, small, pow-bits w, pow_pos (hbits w)))
-
-    pub plain_complement : nat_abs (to_z w (of_z w a)) ≡ complement (bits w) a
-    plain_complement = unsigned_is here ∙ complement_above (bits w) a not_negative
-
--- reading it
-module _ (w : Width) {x : ℕ} (fit : x < 2 ^ bits w) where
-  pub low_from_complement : x < 2 ^ hbits w → to_z w x ≡ from_complement (bits w) x
-  low_from_complement h = to_z_pos w x h ∙ sym (from_complement_low (bits w) x (omega (arith, pow-bits w)))
-
-  module _ (high : 2 ^ hbits w ≤ x) where
-    rest : Reads w (2 ^ bits w - 1 - x) (pos (2 ^ bits w - 1 - x))
-    rest = positive w _ (omega (arith, pow-bits w))
-
-    unflipped : negsuc 0 -ℤ pos (2 ^ bits w - 1 - x) ≡ negsuc (2 ^ bits w - suc x)
-    unflipped = eq_out _ _ (omega (arith, difference (negsuc 0) (pos (2 ^ bits w - 1 - x)), size (negsuc 0 -ℤ pos (2 ^ bits w - 1 - x))))
-
-    unflip_fits : SFits w (negsuc 0 -ℤ pos (2 ^ bits w - 1 - x))
-    unflip_fits = rw unflipped (record { sfits = omega (arith, pow-bits w) })
-
-    pub unflip_ok : SFits w (to_z w (2 ^ bits w - 1) -ℤ to_z w (2 ^ bits w - 1 - x))
-    unflip_ok = operation_ok (minus_one w) rest ◌-ℤ◌ unflip_fits
-
-    pub high_from_complement : to_z w (of_z w (to_z w (2 ^ bits w - 1) -ℤ to_z w (2 ^ bits w - 1 - x))) ≡ from_complement (bits w) x
-    high_from_complement =
-        (operation_is (minus_one w) rest ◌-ℤ◌ unflip_fits).back ∙ unflipped ∙ sym (from_complement_high (bits w) x (omega (arith, pow-bits w)))
+    of : (t : Bool) → ltb x (2 ^ hbits w) ≡ t → sel t (pos x) (negsuc (2 ^ bits w - suc x)) ≡ from_complement (bits w) x
+    of true e = sym (from_complement_low (bits w) x (omega (arith, pow-bits w, ltb-true x (2 ^ hbits w) e)))
+    of false e = sym (from_complement_high (bits w) x (omega (arith, pow-bits w, ltb-false x (2 ^ hbits w) e)))

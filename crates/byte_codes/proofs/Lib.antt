@@ -4,3 +4,4 @@ pub mod Complement
 pub mod Sections
 pub mod Packing
 pub mod Four
+pub mod Numbers

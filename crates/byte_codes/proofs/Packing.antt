@@ -1,104 +1,87 @@
--- The loops over a section: entry by entry, once for every width. Assumes nothing.
-use mathlib.Core.Path.{◌≡◌, refl, sym, ap, ◌∙◌}
-use mathlib.Core.List.{List, [], ◌∷◌, map}
-use Prim.Native.Nat.{ℕ, zero, suc, ◌+◌, ◌*◌, ◌/◌, ◌%◌, ◌<◌}
-use native.Mathlib.Nat.{not-suc-le-zero, le_of_suc-le-suc, one-mul}
-use native.Mathlib.Numerals.{add-one}
-use native.Mathlib.Omega.{arith}
-use lib.ListN.{length, take, drop, get_or, set as update, length-map}
-use lib.Seq.{drop-cons}
+-- The loops over a section, once for every kind of number: what one entry more makes of it. Assumes nothing.
+use Rattle.std.proofs.Common.{◌≡◌, refl, sym, ap, ap₂, ◌∙◌, List, [], ◌∷◌, ◌++◌, map, ℕ, ◌+◌, ◌*◌, ◌-◌, ◌<◌, ◌≤◌, length, take, drop, get_or, arith, add-one, length-append, append_assoc, append-nil, take-append-drop, take_at}
+use Rattle.std.proofs.Math.Nat.{mul-suc, mul-le-mul_left, mul-zero}
+use Rattle.std.proofs.lemmas.List.{take_more, take_all, map-append, length-map, length-take-le}
+use Rattle.std.proofs.lemmas.Slice.{take-put_mid, drop-put_mid, drop-append-drop}
+use borrow.Rule.Slice.PartMut.{put_mid, mid_of}
+use lib.ListN.{set as update, drop_of_length-le}
+use Rattle.laws.proofs.Entries.{get_or-map}
 use Rattle.laws.proofs.Loops.{Rewritten, more}
 use Rattle.byte_codes.specs.Bytes.{bytes_of, number_in, packed, unpacked}
-use Rattle.byte_codes.proofs.Sections.{length_packed, packed_at, length_unpacked, unpacked_at}
+use Rattle.byte_codes.proofs.Sections.{length_bytes, length_packed, length_unpacked, unpacked_at}
 
--- ---- writing: the bytes of the entries passed are in place
-module _ (width : ℕ) (out entries : List ℕ) (long : length out ≡ width * length entries) where
-  pub packed_fills : length (packed width entries) ≡ length out
-  packed_fills = length_packed width entries ∙ sym long
+-- the places of an entry's bytes
+module _ (width i : ℕ) where
+  next : width * (i + 1) ≡ width * i + width
+  next = rw (add-one, mul-suc width i) (omega arith)
 
-  -- one byte more, the j-th of entry i
-  byte_more : (i j at : ℕ) {now : List ℕ} (b : ℕ) → i < length entries → j < width → at ≡ width * i + j → at < length out
-      → b ≡ get_or (bytes_of width (get_or entries i 0)) j 0
-      → Rewritten out (packed width entries) at now → Rewritten out (packed width entries) (at + 1) (update now at b)
-  byte_more i j at b h k place inside e so =
-      more out (packed width entries) packed_fills so 0 b inside (e ∙ sym (packed_at width entries i j h k) ∙ ap (λ (n : ℕ). get_or (packed width entries) n 0) (sym place))
+  room : width * (i + 1) - width * i ≡ width
+  room = rw next (omega arith)
 
-module _ (out entries : List ℕ) {i : ℕ} {now : List ℕ} (x : ℕ) (h : i < length entries) (e : x ≡ get_or entries i 0) where
-  -- an entry of two bytes
-  pub two_more : length out ≡ 2 * length entries → Rewritten out (packed 2 entries) (2 * i) now
-      → Rewritten out (packed 2 entries) (2 * (i + 1)) (update (update now (2 * i) (x % 256)) (2 * i + 1) (x / 256 % 256))
-  unfolding bytes_of
-  two_more long so =
-      let inside : 2 * i < length out = omega arith in
-      let inside' : 2 * i + 1 < length out = omega arith in
-      let next : 2 * (i + 1) ≡ 2 * i + 1 + 1 = omega arith in
-      rw next
-      (byte_more 2 out entries long i 1 (2 * i + 1) (x / 256 % 256) h (omega arith) refl inside' (ap (λ (n : ℕ). n / 256 % 256) e)
-      (byte_more 2 out entries long i 0 (2 * i) (x % 256) h (omega arith) (omega arith) inside (ap (λ (n : ℕ). n % 256) e) so))
+packed-append : (width : ℕ) (xs ys : List ℕ) → packed width (xs ++ ys) ≡ packed width xs ++ packed width ys
+unfolding packed
+packed-append width [] ys = refl
+packed-append width (x ∷ xs) ys = ap (λ (l : List ℕ). bytes_of width x ++ l) (packed-append width xs ys) ∙ sym (append_assoc (bytes_of width x) (packed width xs) (packed width ys))
 
-  -- an entry of one byte
-  pub one_more : length out ≡ 1 * length entries → x < 256 → Rewritten out (packed 1 entries) i now → Rewritten out (packed 1 entries) (i + 1) (update now i x)
-  unfolding bytes_of
-  one_more long small so =
-      let inside : i < length out = omega arith in
-      let byte : x ≡ get_or entries i 0 % 256 = omega arith in
-      byte_more 1 out entries long i 0 i x h (omega arith) (omega arith) inside byte so
+packed-one : (width x : ℕ) → packed width (x ∷ []) ≡ bytes_of width x
+unfolding packed
+packed-one width x = append-nil (bytes_of width x)
 
--- ---- reading: the number at a place
-number_next : (width at : ℕ) (bytes : List ℕ) → at < length bytes → number_in (take (suc width) (drop at bytes)) ≡ get_or bytes at 0 + 256 * number_in (take width (drop (at + 1) bytes))
-unfolding number_in
-number_next width at bytes h = rw (add-one, drop-cons bytes at 0 h)
+-- ---- writing: the bytes of the entries passed are in place, and behind them what was there
+module _ {A : Type 0} (code : A → ℕ) (width : ℕ) (entries : List A) (out : List ℕ) where
+  abbrev pub written : ℕ → List ℕ
+  written i = packed width (map code (take i entries)) ++ drop (width * i) out
 
-module _ (bytes : List ℕ) (count i : ℕ) (h : i < count) where
-  pub two_at : length bytes ≡ 2 * count → get_or bytes (2 * i) 0 + 256 * get_or bytes (2 * i + 1) 0 ≡ get_or (unpacked 2 count bytes) i 0
-  unfolding number_in
-  two_at long =
-      let inside : 2 * i < length bytes = omega arith in
-      let inside' : 2 * i + 1 < length bytes = omega arith in
-      sym
-      (unpacked_at 2 count bytes i h ∙ number_next 1 (2 * i) bytes inside
-      ∙ ap (λ (n : ℕ). get_or bytes (2 * i) 0 + 256 * n) (number_next 0 (2 * i + 1) bytes inside' ∙ omega arith))
+  pub none_written : out ≡ written 0
+  unfolding packed
+  none_written = rw (mul-zero width) refl
 
-  pub one_at : length bytes ≡ 1 * count → get_or bytes i 0 ≡ get_or (unpacked 1 count bytes) i 0
-  unfolding number_in
-  one_at long =
-      let inside : i < length bytes = omega arith in
-      sym (unpacked_at 1 count bytes i h ∙ ap (λ (n : ℕ). number_in (take 1 (drop n bytes))) (one-mul i) ∙ number_next 0 i bytes inside ∙ omega arith)
+  length_front : (i : ℕ) → i ≤ length entries → length (packed width (map code (take i entries))) ≡ width * i
+  length_front i h = length_packed width (map code (take i entries)) ∙ rw (length-map, length-take-le i entries h) refl
 
--- ---- entries that a function was applied to
-get_or-map_inside : {A B : Type 0} (f : A → B) (l : List A) (i : ℕ) (a : A) (b : B) → i < length l → get_or (map f l) i b ≡ f (get_or l i a)
-get_or-map_inside f [] i a b h = absurd (not-suc-le-zero h)
-get_or-map_inside f (x ∷ l) zero a b h = refl
-get_or-map_inside f (x ∷ l) (suc i) a b h = get_or-map_inside f l i a b (le_of_suc-le-suc h)
+  front_more : (i : ℕ) (x : A) → i < length entries → x ≡ get_or entries i x → packed width (map code (take (i + 1) entries)) ≡ packed width (map code (take i entries)) ++ bytes_of width (code x)
+  front_more i x h is =
+      ap (λ (l : List A). packed width (map code l)) (take_more entries i x h ∙ ap (λ (y : A). take i entries ++ (y ∷ [])) (sym is))
+      ∙ ap (packed width) (map-append code (take i entries) (x ∷ []))
+      ∙ packed-append width (map code (take i entries)) (code x ∷ [])
+      ∙ ap (λ (l : List ℕ). packed width (map code (take i entries)) ++ l) (packed-one width (code x))
 
-module _ {A : Type 0} (f : A → ℕ) (entries : List A) (out : List ℕ) where
-  map_long : (width : ℕ) → length out ≡ width * length entries → length out ≡ width * length (map f entries)
-  map_long width long = rw (length-map entries f) long
+  module _ (long : length out ≡ width * length entries) where
+    pub written_more : (i : ℕ) (bytes : List ℕ) (x : A) → i < length entries → x ≡ get_or entries i x → bytes ≡ bytes_of width (code x)
+        → put_mid (width * i) (width * (i + 1) - width * i) (written i) bytes ≡ written (i + 1)
+    written_more i bytes x h is by =
+        let front = packed width (map code (take i entries)) in
+        let full : length front ≡ width * i = length_front i (omega arith) in
+        let wide : length bytes ≡ width = ap length by ∙ length_bytes width (code x) in
+        let within : width * i ≤ length (written i) = omega (arith, full, length-append front (drop (width * i) out)) in
+        let end = width * (i + 1) in
+        let ends : end ≡ width * i + length bytes = rw wide (next width i) in
+        let size : length bytes ≡ end - width * i = rw (room width i) wide in
+        let whole = put_mid (width * i) (end - width * i) (written i) bytes in
+        sym (take-append-drop end whole)
+        ∙ ap₂ ◌++◌
+        (take-put_mid (width * i) (end - width * i) (written i) bytes end ends within
+        ∙ ap₂ ◌++◌ (take_at front (drop (width * i) out) (width * i) full) by ∙ sym (front_more i x h is))
+        (drop-put_mid (width * i) (end - width * i) (written i) bytes end (omega (arith, ends)) within size
+        ∙ drop-append-drop (width * i) out front end (omega (arith, ends)) full)
 
-  pub map_fills : (width : ℕ) → length out ≡ width * length entries → length (packed width (map f entries)) ≡ length out
-  map_fills width long = packed_fills width out (map f entries) (map_long width long)
+    pub all_written : (i : ℕ) → length entries ≤ i → written i ≡ packed width (map code entries)
+    all_written i h =
+        let end : length out ≤ width * i = rw long (mul-le-mul_left width h) in
+        ap₂ (λ (l : List A) (rest : List ℕ). packed width (map code l) ++ rest) (take_all i entries h) (drop_of_length-le out end) ∙ append-nil (packed width (map code entries))
 
-  module _ {i : ℕ} (a : A) (x : ℕ) (h : i < length entries) (e : x ≡ f (get_or entries i a)) where
-    inside : i < length (map f entries)
-    inside = rw (length-map entries f) h
+-- ---- reading: the entries passed are read
+module _ {B : Type 0} (decode : ℕ → B) (width : ℕ) (bytes : List ℕ) (entries : List B) where
+  abbrev pub entries_in : List B
+  entries_in = map decode (unpacked width (length entries) bytes)
 
-    at : x ≡ get_or (map f entries) i 0
-    at = e ∙ sym (get_or-map_inside f entries i a 0 h)
+  pub length_entries_in : length entries_in ≡ length entries
+  length_entries_in = length-map (unpacked width (length entries) bytes) decode ∙ length_unpacked width (length entries) bytes
 
-    pub map_two_more : {now : List ℕ} → length out ≡ 2 * length entries → Rewritten out (packed 2 (map f entries)) (2 * i) now
-        → Rewritten out (packed 2 (map f entries)) (2 * (i + 1)) (update (update now (2 * i) (x % 256)) (2 * i + 1) (x / 256 % 256))
-    map_two_more long so = two_more out (map f entries) x inside at (map_long 2 long) so
-
-    pub map-one_more : {now : List ℕ} → length out ≡ 1 * length entries → x < 256 → Rewritten out (packed 1 (map f entries)) i now → Rewritten out (packed 1 (map f entries)) (i + 1) (update now i x)
-    map-one_more long small so = one_more out (map f entries) x inside at (map_long 1 long) small so
-
-module _ {B : Type 0} (f : ℕ → B) (width : ℕ) (bytes : List ℕ) (entries : List B) where
-  pub map_unpacked_fills : length (map f (unpacked width (length entries) bytes)) ≡ length entries
-  map_unpacked_fills = length-map (unpacked width (length entries) bytes) f ∙ length_unpacked width (length entries) bytes
-
-  pub map_more : {i : ℕ} {now : List B} (b y : B) (x : ℕ) → i < length entries → x ≡ get_or (unpacked width (length entries) bytes) i 0 → y ≡ f x
-      → Rewritten entries (map f (unpacked width (length entries) bytes)) i now → Rewritten entries (map f (unpacked width (length entries) bytes)) (i + 1) (update now i y)
-  map_more {i} b y x h e k so =
+  pub read_more : (i : ℕ) {now : List B} (y : B) → i < length entries → y ≡ decode (number_in (mid_of (width * i) (width * (i + 1) - width * i) bytes))
+      → Rewritten entries entries_in i now → Rewritten entries entries_in (i + 1) (update now i y)
+  read_more i y h is so =
       let inside : i < length (unpacked width (length entries) bytes) = rw (length_unpacked width (length entries) bytes) h in
-      more entries (map f (unpacked width (length entries) bytes)) map_unpacked_fills so b y h
-      (k ∙ ap f e ∙ sym (get_or-map_inside f (unpacked width (length entries) bytes) i 0 b inside))
+      more entries entries_in length_entries_in so y y h
+      (is ∙ ap (λ (n : ℕ). decode (number_in (take n (drop (width * i) bytes)))) (room width i) ∙ ap decode (sym (unpacked_at width (length entries) bytes i h))
+      ∙ sym (get_or-map decode (unpacked width (length entries) bytes) i 0 y inside))

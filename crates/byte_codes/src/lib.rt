@@ -1,163 +1,117 @@
 // Numbers as bytes, the low byte first, and sections of entries one after the other (01, "The record").
 #![tactic(auto)]
 
-ghost use Rattle.std.specs.Prelude.{◌≡◌, map, ◌+◌, ◌*◌, ◌/◌, ◌%◌, ◌<◌, length, get_or, set};
+ghost use Rattle.std.specs.Prelude.{◌≡◌, ℕ, map, ◌*◌, length};
 ghost use Rattle.byte_codes.specs.Bytes.{bytes_of, number_in, packed, unpacked, complement, from_complement};
 
-// The two bytes of a number, at a place and the one after it.
-pub fn put_number(out: &mut [u8], at: usize, x: u16)
-    requires { at + 1 < length out.old }
-    ensures { out.new ≡ set (set out.old at (x % 256)) (at + 1) (x / 256 % 256) }
-{
-    out[at] = (x % 256) as u8;
-    out[at + 1] = (x / 256) as u8;
+// A number that stands in bytes: in how many, and the code that they make, a whole number's in two's complement.
+pub trait Number: Copy {
+    ghost WIDTH: { ℕ };
+
+    const WIDTH: usize;
+
+    ghost code: { Self → ℕ };
+
+    ghost from_code: { ℕ → Self };
+
+    fn put(self, out: &mut [u8])
+        requires { length out.old ≡ WIDTH }
+        ensures { out.new ≡ bytes_of WIDTH (code self) };
+
+    fn read(bytes: &[u8]) -> Self
+        requires { length bytes.now ≡ WIDTH }
+        ensures { result ≡ from_code (number_in bytes.now) };
 }
 
-// The number whose two bytes stand at a place and the one after it.
-pub fn number_at(bytes: &[u8], at: usize) -> u16
-    requires { at + 1 < length bytes.now }
-    ensures { result ≡ get_or bytes.now at 0 + 256 * get_or bytes.now (at + 1) 0 }
-{
-    (bytes[at] as u16) + 256 * (bytes[at + 1] as u16)
-}
+impl Number for u16 {
+    ghost WIDTH = { 2 };
 
-// The four bytes of a number, and the number that four bytes make.
-pub fn put_number32(out: &mut [u8], x: u32)
-    requires { length out.old ≡ 4 }
-    ensures { out.new ≡ bytes_of 4 x }
-{
-    out[0] = (x % 256) as u8;
-    out[1] = (x / 256 % 256) as u8;
-    out[2] = (x / 256 / 256 % 256) as u8;
-    out[3] = (x / 256 / 256 / 256 % 256) as u8;
-}
+    const WIDTH: usize = 2;
 
-pub fn number32_in(bytes: &[u8]) -> u32
-    requires { length bytes.now ≡ 4 }
-    ensures { result ≡ number_in bytes.now }
-{
-    let low = number_at(bytes, 0) as u32;
-    let high = number_at(bytes, 2) as u32;
-    low + 65536 * high
-}
+    ghost code = { λ x. x };
 
-// Two's complement in 16 and in 8 binary digits, and back.
-pub fn bits16(a: i16) -> u16
-    ensures { result ≡ complement 16 a }
-{
-    if a < 0 {
-        65535 - ((-1 - a) as u16)
-    } else {
-        a as u16
+    ghost from_code = { λ x. x };
+
+    fn put(self, out: &mut [u8]) {
+        out.copy_from_slice(&u16::to_le_bytes(self));
+    }
+
+    fn read(bytes: &[u8]) -> u16 {
+        u16::from_le_bytes([bytes[0], bytes[1]])
     }
 }
 
-pub fn bits8(a: i8) -> u8
-    ensures { result ≡ complement 8 a }
-{
-    if a < 0 {
-        255 - ((-1 - a) as u8)
-    } else {
-        a as u8
+impl Number for u32 {
+    ghost WIDTH = { 4 };
+
+    const WIDTH: usize = 4;
+
+    ghost code = { λ x. x };
+
+    ghost from_code = { λ x. x };
+
+    fn put(self, out: &mut [u8]) {
+        out.copy_from_slice(&u32::to_le_bytes(self));
+    }
+
+    fn read(bytes: &[u8]) -> u32 {
+        u32::from_le_bytes([bytes[0], bytes[1], bytes[2], bytes[3]])
     }
 }
 
-pub fn signed16(x: u16) -> i16
-    ensures { result ≡ from_complement 16 x }
-{
-    if x < 32768 {
-        x as i16
-    } else {
-        -1 - ((65535 - x) as i16)
+impl Number for i16 {
+    ghost WIDTH = { 2 };
+
+    const WIDTH: usize = 2;
+
+    ghost code = { complement 16 };
+
+    ghost from_code = { from_complement 16 };
+
+    fn put(self, out: &mut [u8]) {
+        out.copy_from_slice(&i16::to_le_bytes(self));
+    }
+
+    fn read(bytes: &[u8]) -> i16 {
+        i16::from_le_bytes([bytes[0], bytes[1]])
     }
 }
 
-pub fn signed8(x: u8) -> i8
-    ensures { result ≡ from_complement 8 x }
-{
-    if x < 128 {
-        x as i8
-    } else {
-        -1 - ((255 - x) as i8)
-    }
-}
+impl Number for i8 {
+    ghost WIDTH = { 1 };
 
-// The same bytes.
-pub fn copy(bytes: &[u8], out: &mut [u8])
-    requires { length out.old ≡ length bytes.now }
-    ensures { out.new ≡ bytes.now }
-{
-    let mut i = 0;
-    while i < bytes.len() {
-        out[i] = bytes[i];
-        i += 1;
+    const WIDTH: usize = 1;
+
+    ghost code = { complement 8 };
+
+    ghost from_code = { from_complement 8 };
+
+    fn put(self, out: &mut [u8]) {
+        out.copy_from_slice(&i8::to_le_bytes(self));
+    }
+
+    fn read(bytes: &[u8]) -> i8 {
+        i8::from_le_bytes([bytes[0]])
     }
 }
 
 // ---- sections: two bytes an entry of z1 and of the list, one of z2 dagger
+// Parts of the bytes go by the index: of what `chunks_exact_mut` lends, and after another adapter of `iter_mut` than `enumerate`, a proof knows nothing of the values.
 
-pub fn pack_wide(entries: &[i16], out: &mut [u8])
-    requires { length out.old ≡ 2 * length entries.now }
-    ensures { out.new ≡ packed 2 (map (complement 16) entries.now) }
+pub fn pack<T: Number>(entries: &[T], out: &mut [u8])
+    requires { length out.old ≡ T.WIDTH * length entries.now }
+    ensures { out.new ≡ packed T.WIDTH (map T.code entries.now) }
 {
-    let mut i = 0;
-    while i < entries.len() {
-        put_number(out, 2 * i, bits16(entries[i]));
-        i += 1;
+    for (i, &entry) in entries.iter().enumerate() {
+        entry.put(&mut out[T::WIDTH * i..T::WIDTH * (i + 1)]);
     }
 }
 
-pub fn pack_narrow(entries: &[i8], out: &mut [u8])
-    requires { length out.old ≡ 1 * length entries.now }
-    ensures { out.new ≡ packed 1 (map (complement 8) entries.now) }
+pub fn unpack<T: Number>(bytes: &[u8], entries: &mut [T])
+    requires { length bytes.now ≡ T.WIDTH * length entries.old }
+    ensures { entries.new ≡ map T.from_code (unpacked T.WIDTH (length entries.old) bytes.now) }
 {
-    let mut i = 0;
-    while i < entries.len() {
-        out[i] = bits8(entries[i]);
-        i += 1;
-    }
-}
-
-pub fn pack_places(entries: &[u16], out: &mut [u8])
-    requires { length out.old ≡ 2 * length entries.now }
-    ensures { out.new ≡ packed 2 entries.now }
-{
-    let mut i = 0;
-    while i < entries.len() {
-        put_number(out, 2 * i, entries[i]);
-        i += 1;
-    }
-}
-
-pub fn unpack_wide(bytes: &[u8], entries: &mut [i16])
-    requires { length bytes.now ≡ 2 * length entries.old }
-    ensures { entries.new ≡ map (from_complement 16) (unpacked 2 (length entries.old) bytes.now) }
-{
-    let mut i = 0;
-    while i < entries.len() {
-        entries[i] = signed16(number_at(bytes, 2 * i));
-        i += 1;
-    }
-}
-
-pub fn unpack_narrow(bytes: &[u8], entries: &mut [i8])
-    requires { length bytes.now ≡ 1 * length entries.old }
-    ensures { entries.new ≡ map (from_complement 8) (unpacked 1 (length entries.old) bytes.now) }
-{
-    let mut i = 0;
-    while i < entries.len() {
-        entries[i] = signed8(bytes[i]);
-        i += 1;
-    }
-}
-
-pub fn unpack_places(bytes: &[u8], entries: &mut [u16])
-    requires { length bytes.now ≡ 2 * length entries.old }
-    ensures { entries.new ≡ unpacked 2 (length entries.old) bytes.now }
-{
-    let mut i = 0;
-    while i < entries.len() {
-        entries[i] = number_at(bytes, 2 * i);
-        i += 1;
+    for (i, entry) in entries.iter_mut().enumerate() {
+        *entry = T::read(&bytes[T::WIDTH * i..T::WIDTH * (i + 1)]);
     }
 }

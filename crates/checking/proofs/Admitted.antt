@@ -9,7 +9,7 @@ use lib.ListN.{get_or}
 use Rattle.sets.specs.declared.Set.{Set}
 use Rattle.sets.specs.Numbers.{d_of, p_of}
 use Rattle.sets.proofs.Alike.{largest_below_spread}
-use Rattle.answers.specs.declared.Outcome.TheVariants.{Done}
+use Rattle.answers.specs.Outcomes.{Done}
 use Rattle.limits.specs.LengthRule.{length_rule}
 use Rattle.limits.proofs.Rule.{second_within}
 

@@ -1,3 +1,4 @@
 -- What the other crates cite of checking.
 pub mod Marks
 pub mod Admitted
+pub mod Equality

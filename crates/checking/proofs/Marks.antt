@@ -1,9 +1,8 @@
 -- The marks of a list: made place by place, and what they are at each place. Assumes nothing.
 use mathlib.Core.Path.{◌≡◌, refl, sym, ap, ◌∙◌}
-use mathlib.Core.Bool.{Bool, true, false, cond, ◌||◌}
+use mathlib.Core.Bool.{Bool, cond, ◌||◌}
 use mathlib.Core.List.{List, [], ◌∷◌, ◌++◌}
 use Prim.Native.Nat.{ℕ, ◌+◌, ◌<◌}
-use native.Mathlib.Decide.{ℕ_discrete}
 use native.Mathlib.Numerals.{add-one}
 use native.Mathlib.Omega.{arith}
 use borrow.Author.Tests.{eq-eqb, ne_eqb}
@@ -11,6 +10,7 @@ use lib.Dec.{eqb}
 use lib.IntN.{ℤ, pos}
 use lib.ListN.{length, take, get_or, set as update, replicate, length-set, length-replicate, get_or-replicate}
 use lib.Seq.{take-suc, get_or-set_same, get_or-set_other}
+use Rattle.std.proofs.Math.Bool.{or_assoc, or-false, or-true}
 use Rattle.laws.proofs.Entries.{is_tabulate, get_or-tabulate, length-tabulate}
 use Rattle.sets.specs.Numbers.{dimension, modulus}
 use Rattle.vectors.specs.Places.{listed}
@@ -28,39 +28,19 @@ unfolding marks
 get_or_marks l k h = get_or-tabulate (mark l) dimension k (pos 0) h
 
 -- ---- one place more
-or_assoc : (a b c : Bool) → (a || b) || c ≡ a || (b || c)
-or_assoc true b c = refl
-or_assoc false b c = refl
-
-or_false : (b : Bool) → b || false ≡ b
-or_false true = refl
-or_false false = refl
-
-or_true : (b : Bool) → b || true ≡ true
-or_true true = refl
-or_true false = refl
-
 listed_more : (l : List ℕ) (i k : ℕ) → listed (l ++ (i ∷ [])) k ≡ listed l k || eqb i k
 unfolding listed
-listed_more [] i k = or_false (eqb i k)
+listed_more [] i k = or-false (eqb i k)
 listed_more (j ∷ l) i k = ap (λ (b : Bool). eqb j k || b) (listed_more l i k) ∙ sym (or_assoc (eqb j k) (listed l k) (eqb i k))
 
 mark_here : (l : List ℕ) (i : ℕ) → mark (l ++ (i ∷ [])) i ≡ pos modulus
-mark_here l i = rw (listed_more l i i, eq-eqb i i refl, or_true (listed l i))
+mark_here l i = rw (listed_more l i i, eq-eqb i i refl, or-true (listed l i))
 
 mark_other : (l : List ℕ) (i k : ℕ) → (i ≡ k → ⊥) → mark (l ++ (i ∷ [])) k ≡ mark l k
-mark_other l i k n = rw (listed_more l i k, ne_eqb i k n, or_false (listed l k))
+mark_other l i k n = rw (listed_more l i k, ne_eqb i k n, or-false (listed l k))
 
 at_place : (l : List ℕ) (i k : ℕ) → i < dimension → k < dimension → get_or (update (marks l) i (pos modulus)) k (pos 0) ≡ mark (l ++ (i ∷ [])) k
-at_place l i k h j = pick (ℕ_discrete i k)
-  where
-    pick : Dec (i ≡ k) → get_or (update (marks l) i (pos modulus)) k (pos 0) ≡ mark (l ++ (i ∷ [])) k
-    pick (yes e) =
-        ap (λ (n : ℕ). get_or (update (marks l) i (pos modulus)) n (pos 0)) (sym e)
-        ∙ get_or-set_same (marks l) i (pos modulus) (pos 0) (omega (arith, length_marks l))
-        ∙ sym (mark_here l i) ∙ ap (mark (l ++ (i ∷ []))) e
-    pick (no n) =
-        get_or-set_other (marks l) i k (pos modulus) (pos 0) (λ e. n (sym e)) ∙ get_or_marks l k j ∙ sym (mark_other l i k n)
+at_place l i k h j = grind (arith, get_or-set_same (marks l) i (pos modulus) (pos 0), get_or-set_other (marks l) i k (pos modulus) (pos 0), length_marks l, get_or_marks l k j, mark_here l i, mark_other l i k)
 
 marks_more : (l : List ℕ) (i : ℕ) → i < dimension → update (marks l) i (pos modulus) ≡ marks (l ++ (i ∷ []))
 unfolding marks

@@ -5,7 +5,9 @@
 mod comparisons;
 mod rebuilds;
 
-fn main() {
-    rebuilds::run();
-    comparisons::run();
+use std::io;
+
+fn main(rt: HostRuntime) -> io::Result<()> {
+    rebuilds::run(&rt)?;
+    comparisons::run(&rt)
 }

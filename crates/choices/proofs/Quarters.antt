@@ -6,7 +6,7 @@ use native.Mathlib.Nat.{suc_inj, suc-ne-zero, add-mul}
 use native.Mathlib.Omega.{arith}
 use lib.IntN.{ℤ, pos, nat_abs, ◌+ℤ◌, ◌*ℤ◌, +ℤ_assoc}
 use lib.ListN.{length, get_or, take, drop, replicate, get_or-replicate, length-drop}
-use lib.Seq.{get_or-take, get_or-drop, length-take-le, take-add, take_all}
+use lib.Seq.{get_or-take, get_or-drop, length-take-le, take-add}
 use Rattle.laws.specs.Integers.{sumℤ}
 use Rattle.laws.specs.Lists.{zip_with}
 use Rattle.laws.proofs.Bounds.{abs_add, abs_mul}
@@ -15,7 +15,7 @@ use Rattle.sets.specs.Numbers.{dimension}
 use Rattle.polynomials.proofs.Operations.{plus, linear_medial}
 use Rattle.vectors.specs.Vectors.{inner}
 use Rattle.vectors.proofs.Sums.{inner_append}
-use Rattle.vectors.specs.Pairs.{Pair, inner_pair}
+use Rattle.vectors.specs.Pairs.{Pair}
 use Rattle.choices.proofs.Pairs.{Sized}
 
 -- ---- inner products in parts
@@ -26,6 +26,9 @@ part start x = take 128 (drop start x)
 
 part_long : (start : ℕ) → start + 128 ≤ dimension → (x : List ℤ) → length x ≡ dimension → length (part start x) ≡ 128
 part_long start inside x lx = length-take-le 128 (drop start x) (omega (arith, length-drop start x))
+
+part_at : (start : ℕ) (x : List ℤ) (k : ℕ) → k < 128 → get_or (part start x) k (pos 0) ≡ get_or x (start + k) (pos 0)
+part_at start x k h = get_or-take 128 (drop start x) k (pos 0) h ∙ get_or-drop start x k (pos 0)
 
 module _ (a b : List ℤ) (la : length a ≡ dimension) (lb : length b ≡ dimension) (start : ℕ) (inside : start + 128 ≤ dimension) where
   inner_parts : inner (take (start + 128) a) (take (start + 128) b) ≡ inner (take start a) (take start b) +ℤ inner (part start a) (part start b)
@@ -47,27 +50,25 @@ total_gather (x ∷ s) (y ∷ a) (z ∷ b) la lb =
     ap (λ (r : ℤ). (x +ℤ y *ℤ z) +ℤ r) (total_gather s a b (suc_inj la) (suc_inj lb)) ∙ linear_medial plus plus x (y *ℤ z) _ (inner a b)
 
 -- the sums after a gather
-abbrev pub gathered : List ℤ → List ℤ → List ℤ → ℕ → List ℤ
-gathered s a b start = zip_with ◌+ℤ◌ s (zip_with ◌*ℤ◌ (part start a) (part start b))
+abbrev pub more_products : List ℤ → List ℤ → List ℤ → List ℤ
+more_products s a b = zip_with ◌+ℤ◌ s (zip_with ◌*ℤ◌ a b)
 
-module _ (s a b : List ℤ) (start : ℕ) (ls : length s ≡ 128) (la : length a ≡ dimension) (lb : length b ≡ dimension) (inside : start + 128 ≤ dimension) where
-  products_long : length (zip_with ◌*ℤ◌ (part start a) (part start b)) ≡ 128
-  products_long = length-zip_with ◌*ℤ◌ (part start a) (part start b) (part_long start inside a la ∙ sym (part_long start inside b lb)) ∙ part_long start inside a la
+module _ (s a b : List ℤ) (ls : length s ≡ 128) (la : length a ≡ 128) (lb : length b ≡ 128) where
+  products_long : length (zip_with ◌*ℤ◌ a b) ≡ 128
+  products_long = length-zip_with ◌*ℤ◌ a b (la ∙ sym lb) ∙ la
 
-  pub length_gathered : length (gathered s a b start) ≡ length s
-  length_gathered = length-zip_with ◌+ℤ◌ s _ (ls ∙ sym products_long)
+  pub length_more : length (more_products s a b) ≡ length s
+  length_more = length-zip_with ◌+ℤ◌ s _ (ls ∙ sym products_long)
 
   -- each sum has one product more
-  pub gathered_at : (k : ℕ) → k < 128
-      → get_or (gathered s a b start) k (pos 0) ≡ get_or s k (pos 0) +ℤ get_or a (start + k) (pos 0) *ℤ get_or b (start + k) (pos 0)
-  gathered_at k h =
+  pub more_at : (k : ℕ) → k < 128 → get_or (more_products s a b) k (pos 0) ≡ get_or s k (pos 0) +ℤ get_or a k (pos 0) *ℤ get_or b k (pos 0)
+  more_at k h =
       get_or-zip_with ◌+ℤ◌ s _ k (pos 0) (pos 0) (pos 0) (omega arith) (omega (arith, products_long))
-      ∙ ap (λ (z : ℤ). get_or s k (pos 0) +ℤ z)
-      (get_or-zip_with ◌*ℤ◌ (part start a) (part start b) k (pos 0) (pos 0) (pos 0) (omega (arith, part_long start inside a la)) (omega (arith, part_long start inside b lb))
-      ∙ ap₂ ◌*ℤ◌ (at a) (at b))
-    where
-      at : (x : List ℤ) → get_or (part start x) k (pos 0) ≡ get_or x (start + k) (pos 0)
-      at x = get_or-take 128 (drop start x) k (pos 0) h ∙ get_or-drop start x k (pos 0)
+      ∙ ap (λ (z : ℤ). get_or s k (pos 0) +ℤ z) (get_or-zip_with ◌*ℤ◌ a b k (pos 0) (pos 0) (pos 0) (omega arith) (omega arith))
+
+-- over a quarter of a and of b
+abbrev pub gathered : List ℤ → List ℤ → List ℤ → ℕ → List ℤ
+gathered s a b start = more_products s (part start a) (part start b)
 
 -- ---- the sums with n products each, of at most a bound
 pub record Gathered (bound n : ℕ) (whole : ℤ) (sums : List ℤ) : Type 0 where
@@ -86,21 +87,37 @@ gathered_as so e f = rw (← e, ← f) so
 -- one more
 module _ {bound n : ℕ} {whole : ℤ} {s : List ℤ} (so : Gathered bound n whole s) (a b : List ℤ) (la : length a ≡ dimension) (lb : length b ≡ dimension)
     (products : (k : ℕ) → nat_abs (get_or a k (pos 0)) * nat_abs (get_or b k (pos 0)) ≤ bound) (start : ℕ) (inside : start + 128 ≤ dimension) where
+  abbrev x : List ℤ
+  x = part start a
+
+  abbrev y : List ℤ
+  y = part start b
+
+  lx : length x ≡ 128
+  lx = part_long start inside a la
+
+  ly : length y ≡ 128
+  ly = part_long start inside b lb
+
+  -- what gather requires
+  pub products_part : (k : ℕ) → k < 128 → nat_abs (get_or x k (pos 0)) * nat_abs (get_or y k (pos 0)) ≤ bound
+  products_part k h = rw (part_at start a k h, part_at start b k h) (products (start + k))
+
   next : Gathered bound (n + 1) (whole +ℤ inner (part start a) (part start b)) (gathered s a b start)
   next =
       record {
-        long = length_gathered s a b start so.long la lb inside ∙ so.long;
+        long = length_more s x y so.long lx ly ∙ so.long;
         small = λ k h. omega (
           arith,
-          ap nat_abs (gathered_at s a b start so.long la lb inside k h),
-          abs_add (get_or s k (pos 0)) (get_or a (start + k) (pos 0) *ℤ get_or b (start + k) (pos 0)),
-          abs_mul (get_or a (start + k) (pos 0)) (get_or b (start + k) (pos 0)),
+          ap nat_abs (more_at s x y so.long lx ly k h),
+          abs_add (get_or s k (pos 0)) (get_or x k (pos 0) *ℤ get_or y k (pos 0)),
+          abs_mul (get_or x k (pos 0)) (get_or y k (pos 0)),
           so.small k h,
-          products (start + k),
+          products_part k h,
           add-mul n 1 bound,
         );
         is = subst (λ (m : ℕ). sumℤ (λ k. get_or (gathered s a b start) k (pos 0)) m ≡ sumℤ (λ k. get_or s k (pos 0)) m +ℤ inner (part start a) (part start b)) so.long
-            (total_gather s (part start a) (part start b) (part_long start inside a la ∙ sym so.long) (part_long start inside b lb ∙ sym so.long))
+            (total_gather s x y (lx ∙ sym so.long) (ly ∙ sym so.long))
             ∙ ap (λ (z : ℤ). z +ℤ inner (part start a) (part start b)) so.is;
       }
 
@@ -121,8 +138,3 @@ module _ (x c : Pair) (hx : Sized x) (hc : Sized c) where
       +ℤ_assoc (front x c start) (inner (part start x.first) (part start c.first)) (inner (part start x.second) (part start c.second))
       ∙ linear_medial plus plus first second (inner (part start x.first) (part start c.first)) (inner (part start x.second) (part start c.second))
       ∙ ap₂ ◌+ℤ◌ (sym (inner_parts x.first c.first hx.first hc.first start inside)) (sym (inner_parts x.second c.second hx.second hc.second start inside))
-
-  pub front_all : (start : ℕ) → dimension ≤ start → front x c start ≡ inner_pair x c
-  front_all start h =
-      ap₂ ◌+ℤ◌ (ap₂ inner (take_all start x.first (omega arith)) (take_all start c.first (omega arith)))
-      (ap₂ inner (take_all start x.second (omega arith)) (take_all start c.second (omega arith)))

@@ -11,11 +11,28 @@ ghost use Rattle.vectors.specs.Places.{is_place};
 ghost use Rattle.vectors.specs.Pairs.{pair, inner_pair};
 ghost use Rattle.choices.specs.Choices.{added_if, chosen, choices, zeros};
 
-use sets::Set;
+use sets::{Polynomial, Set};
+
+// A column of the key. Its entries are at most 5.
+#[derive(Clone, Copy)]
+struct Column<'a> {
+    first: &'a [i16],
+    second: &'a [i16],
+
+    ghost sized: { (length first.now ≡ dimension) × (length second.now ≡ dimension) },
+    ghost small: { (every (within 5) first.now ≡ true) × (every (within 5) second.now ≡ true) },
+}
 
 // v1 and v2 come as all zeros and leave as the sign choices. A column's entries are at most 5, and those of v at most 5 for each place.
-pub fn choose(s1: &[i16], s2: &[i16], list: &[u16], v1: &mut [i16], v2: &mut [i16])
-    requires s1_len { (length s1.now ≡ dimension) × (length s2.now ≡ dimension) × (every (within 5) s1.now ≡ true) × (every (within 5) s2.now ≡ true) }
+// v1 and v2 (and s1 and s2) stay two: docs/DECISIONS.md names `choose`, which has the four, and what is called on them goes over one half.
+pub fn choose(
+    s1: &Polynomial<i16>,
+    s2: &Polynomial<i16>,
+    list: &[u16],
+    v1: &mut Polynomial<i16>,
+    v2: &mut Polynomial<i16>,
+)
+    requires s1_value { (every (within 5) s1.now ≡ true) × (every (within 5) s2.now ≡ true) }
     requires list_len_bound { (length list.now ≤ list_limit) × (every is_place list.now ≡ true) }
     requires v1_value { (v1.old ≡ zeros) × (v2.old ≡ zeros) }
     ensures { pair v1.new v2.new ≡ choices (pair s1.now s2.now) list.now }
@@ -24,12 +41,14 @@ pub fn choose(s1: &[i16], s2: &[i16], list: &[u16], v1: &mut [i16], v2: &mut [i1
     vectors::mirror(s1, &mut double1);
     let mut double2 = [0i16; 2 * Set::DIMENSION];
     vectors::mirror(s2, &mut double2);
-    let mut k = 0;
-    while k < list.len() {
-        let start = column_start(list[k]);
+    for &place in list {
+        let start = column_start(place);
         let end = start + Set::DIMENSION;
-        step(v1, v2, &double1[start..end], &double2[start..end]);
-        k += 1;
+        let column = Column {
+            first: &double1[start..end],
+            second: &double2[start..end],
+        };
+        step(v1, v2, column);
     }
 }
 
@@ -38,23 +57,22 @@ fn column_start(place: u16) -> usize
     requires { place < dimension }
     ensures { result + place ≡ dimension }
 {
-    Set::DIMENSION - place as usize
+    Set::DIMENSION - usize::from(place)
 }
 
 // One column: added where the inner product is negative, subtracted where it is zero or more. An entry of v is at most a column's for each place.
-fn step(v1: &mut [i16], v2: &mut [i16], c1: &[i16], c2: &[i16])
-    requires v1_len { (length v1.old ≡ dimension) × (length v2.old ≡ dimension) × (length c1.now ≡ dimension) × (length c2.now ≡ dimension) }
-    requires v1_value { (every (within (list_limit * 5)) v1.old ≡ true) × (every (within (list_limit * 5)) v2.old ≡ true) × (every (within 5) c1.now ≡ true) × (every (within 5) c2.now ≡ true) }
-    ensures { pair v1.new v2.new ≡ chosen (pair v1.old v2.old) (pair c1.now c2.now) }
+fn step(v1: &mut Polynomial<i16>, v2: &mut Polynomial<i16>, column: Column)
+    requires { (every (within (list_limit * 5)) v1.old ≡ true) × (every (within (list_limit * 5)) v2.old ≡ true) }
+    ensures { pair v1.new v2.new ≡ chosen (pair v1.old v2.old) (pair column.entry.first.now column.entry.second.now) }
 {
-    let inner = inner_product(v1, v2, c1, c2);
-    join(v1, c1, inner);
-    join(v2, c2, inner);
+    let inner = inner_product(v1, v2, column);
+    join(v1, column.first, inner);
+    join(v2, column.second, inner);
 }
 
 // v + c or v - c, in v's place, by the sign of an inner product.
-fn join(v: &mut [i16], c: &[i16], inner: i32)
-    requires { (length v.old ≡ dimension) × (length c.now ≡ dimension) × ((k : ℕ) → nat_abs (get_or v.old k (pos 0)) + nat_abs (get_or c.now k (pos 0)) < 32768) }
+fn join(v: &mut Polynomial<i16>, c: &[i16], inner: i32)
+    requires { (length c.now ≡ dimension) × ((k : ℕ) → nat_abs (get_or v.old k (pos 0)) + nat_abs (get_or c.now k (pos 0)) < 32768) }
     ensures { v.new ≡ zip_with (added_if (lt_z inner (pos 0))) v.old c.now }
 {
     if inner < 0 {
@@ -67,38 +85,38 @@ fn join(v: &mut [i16], c: &[i16], inner: i32)
 // ---- the inner product of v and a column
 
 // 128 sums of 16 bits gather eight products each, four of each half, which leaves room for lists of up to 163 places. Then they are summed up.
-fn inner_product(v1: &[i16], v2: &[i16], c1: &[i16], c2: &[i16]) -> i32
-    requires v1_len { (length v1.now ≡ dimension) × (length v2.now ≡ dimension) × (length c1.now ≡ dimension) × (length c2.now ≡ dimension) }
-    requires v1_value { (every (within (list_limit * 5)) v1.now ≡ true) × (every (within (list_limit * 5)) v2.now ≡ true) × (every (within 5) c1.now ≡ true) × (every (within 5) c2.now ≡ true) }
-    ensures { result ≡ inner_pair (pair v1.now v2.now) (pair c1.now c2.now) }
+fn inner_product(v1: &Polynomial<i16>, v2: &Polynomial<i16>, column: Column) -> i32
+    requires { (every (within (list_limit * 5)) v1.now ≡ true) × (every (within (list_limit * 5)) v2.now ≡ true) }
+    ensures { result ≡ inner_pair (pair v1.now v2.now) (pair column.entry.first.now column.entry.second.now) }
 {
     let mut sums = [0i16; 128];
-    for quarter in 0..4 {
-        gather(&mut sums, v1, c1, 128 * quarter);
-        gather(&mut sums, v2, c2, 128 * quarter);
+    let first = v1.chunks_exact(128).zip(column.first.chunks_exact(128));
+    let second = v2.chunks_exact(128).zip(column.second.chunks_exact(128));
+    for ((x1, c1), (x2, c2)) in first.zip(second) {
+        gather(&mut sums, x1, c1);
+        gather(&mut sums, x2, c2);
     }
     total(&sums)
 }
 
-// The products of the 128 entries from a start on, each added to its sum.
-fn gather(sums: &mut [i16], a: &[i16], b: &[i16], start: usize)
-    requires sums_len { (length sums.old ≡ 128) × (length a.now ≡ dimension) × (length b.now ≡ dimension) × (start + 128 ≤ dimension) }
-    requires by_index { (j k : ℕ) → j < 128 → nat_abs (get_or sums.old j (pos 0)) + nat_abs (get_or a.now k (pos 0)) * nat_abs (get_or b.now k (pos 0)) < 2 ^ 15 }
-    ensures { sums.new ≡ zip_with ◌+ℤ◌ sums.old (zip_with ◌*ℤ◌ (take 128 (drop start a.now)) (take 128 (drop start b.now))) }
+// The products of 128 entries, each added to its sum.
+fn gather(sums: &mut [i16; 128], a: &[i16], b: &[i16])
+    requires a_len { (length a.now ≡ 128) × (length b.now ≡ 128) }
+    requires by_index { (k : ℕ) → k < 128 → nat_abs (get_or sums.old k (pos 0)) + nat_abs (get_or a.now k (pos 0)) * nat_abs (get_or b.now k (pos 0)) < 2 ^ 15 }
+    ensures { sums.new ≡ zip_with ◌+ℤ◌ sums.old (zip_with ◌*ℤ◌ a.now b.now) }
 {
-    for i in 0..128 {
-        sums[i] = sums[i] + a[start + i] * b[start + i];
+    for (i, sum) in sums.iter_mut().enumerate() {
+        *sum += a[i] * b[i];
     }
 }
 
 // The sum of 128 numbers of 16 bits.
-fn total(sums: &[i16]) -> i32
-    requires { length sums.now ≡ 128 }
+fn total(sums: &[i16; 128]) -> i32
     ensures { result ≡ sumℤ (λ k. get_or sums.now k (pos 0)) 128 }
 {
-    let mut sum: i32 = 0;
-    for i in 0..128 {
-        sum += sums[i] as i32;
+    let mut sum = 0;
+    for &x in sums {
+        sum += i32::from(x);
     }
     sum
 }

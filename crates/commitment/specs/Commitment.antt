@@ -1,12 +1,11 @@
 -- The commitment, and the commitment with rests (01, "Commitment" and "Numbers that come back"; 02, C-20).
-use Rattle.std.specs.Prelude.{Bool, ◌&&◌, List, map, ℕ, ◌<◌, ℤ, get_or}
+use Rattle.std.specs.Prelude.{Bool, ◌&&◌, List, map, ℕ, ◌<◌, ℤ, get_or, Err}
 use Rattle.laws.specs.Lists.{every, zip_with}
 use Rattle.laws.specs.Refusals.{must}
 use Rattle.sets.specs.declared.Set.{Set}
 use Rattle.sets.specs.Numbers.{twice_modulus, mask_limit, asked_of}
-use Rattle.answers.specs.declared.Outcome.{Outcome}
-use Rattle.answers.specs.declared.Outcome.TheVariants.{Done, UnknownSet, WrongLength, CoefficientOutside, MaskOutside}
-use Rattle.answers.specs.Outcomes.{unless, for_set, Filled, filled}
+use Rattle.answers.specs.Outcomes.{Outcome, Done, unless, for_set, Filled, filled}
+use Rattle.answers.specs.declared.Refusal.TheVariants.{UnknownSet, WrongLength, CoefficientOutside, MaskOutside}
 use Rattle.polynomials.specs.Product.{product}
 use Rattle.rounding.specs.Rounding.{upper, rest, summed}
 use Rattle.vectors.specs.Vectors.{sized, within}
@@ -38,9 +37,9 @@ is_reduced u = (k : ℕ) → get_or u k 0 < twice_modulus
 -- ---- the refusals of both calls in their order: 2, 3, 4. `long` tells whether every vector of the call, read or written, has 512 entries
 unfoldable pub tested : Bool → List ℕ → List ℤ → List ℤ → Outcome
 tested long a y1 y2 =
-    must long WrongLength
-    (must (every is_residue a) CoefficientOutside
-    (must (are_masks y1 y2) MaskOutside
+    must long (Err WrongLength)
+    (must (every is_residue a) (Err CoefficientOutside)
+    (must (are_masks y1 y2) (Err MaskOutside)
     Done))
 
 -- ---- the commitment
@@ -53,7 +52,7 @@ commitment_for s a y1 y2 out =
 
 -- the commitment: 1, 2, 3, 4
 unfoldable pub commitment : ℕ → List ℕ → List ℤ → List ℤ → List ℕ → Filled
-commitment set a y1 y2 out = for_set (asked_of set) (filled UnknownSet out) (λ s. commitment_for s a y1 y2 out)
+commitment set a y1 y2 out = for_set (asked_of set) (filled (Err UnknownSet) out) (λ s. commitment_for s a y1 y2 out)
 
 -- ---- the commitment with rests
 
@@ -81,4 +80,4 @@ with_rests_for s a y1 y2 old =
 
 -- the commitment with rests: 1, 2, 3, 4
 unfoldable pub commitment_with_rests : ℕ → List ℕ → List ℤ → List ℤ → Outputs → WithRests
-commitment_with_rests set a y1 y2 old = for_set (asked_of set) (keeping old UnknownSet) (λ s. with_rests_for s a y1 y2 old)
+commitment_with_rests set a y1 y2 old = for_set (asked_of set) (keeping old (Err UnknownSet)) (λ s. with_rests_for s a y1 y2 old)

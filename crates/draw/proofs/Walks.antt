@@ -1,5 +1,5 @@
 -- The whole walk, for its callers: the ways on from how it ended, and the count of words taken. Assumes nothing.
-use mathlib.Core.Path.{◌≡◌, sym, ◌∙◌, subst}
+use mathlib.Core.Path.{◌≡◌, sym, ◌∙◌}
 use mathlib.Core.List.{List}
 use Prim.Native.Nat.{ℕ, zero, suc, ◌+◌, ◌≤◌}
 use native.Mathlib.Omega.{arith}
@@ -41,10 +41,3 @@ module _ (first x : ℕ) (words thresholds : List ℕ) where
       (λ next _ p. rounds_taken (length words + 1) next p)
       (λ next _ p. p)
       (omega arith)
-
-  module _ (ending : Ending) (said : ending ≡ walk_of first x words thresholds) (taken : ℕ) where
-    pub accepted_within : ending ≡ Accepted taken → taken ≤ length words
-    accepted_within e = subst (λ (w : Ending). taken_of words w ≤ length words) (sym said ∙ e) taken_within
-
-    pub rejected_within : ending ≡ Rejected taken → taken ≤ length words
-    rejected_within e = subst (λ (w : Ending). taken_of words w ≤ length words) (sym said ∙ e) taken_within

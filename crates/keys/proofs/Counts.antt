@@ -17,7 +17,9 @@ use Rattle.laws.proofs.Chain.{and_left, and_right}
 use Rattle.sets.specs.declared.Set.{Set}
 use Rattle.sets.specs.Numbers.{key_limit_of, ones_of, twos_of, coefficient_limit_of}
 use Rattle.sets.proofs.Alike.{key_limit_is}
-use Rattle.answers.specs.declared.Outcome.TheVariants.{Done, RelationBroken, CountsWrong}
+use Rattle.std.specs.Prelude.{Err}
+use Rattle.answers.specs.declared.Refusal.TheVariants.{RelationBroken, CountsWrong}
+use Rattle.answers.specs.Outcomes.{Done}
 use Rattle.vectors.specs.Vectors.{squares}
 use Rattle.vectors.specs.Pairs.{pair, squares_pair}
 use Rattle.keys.specs.Key.{is_small, in_range, second, relation, counted, has_counts, right_counts, proper_key}
@@ -165,11 +167,11 @@ module _ (s : Set) where
 
   -- so that a key in range is proper where its counts are right and its relation holds
   pub proper_by_relation : (f g : List ℤ) (a : List ℕ) → in_range f g a ≡ true → right_counts s f g ≡ true
-      → proper_key s f g a ≡ must (relation a f (second g)) RelationBroken Done
+      → proper_key s f g a ≡ must (relation a f (second g)) (Err RelationBroken) Done
   unfolding proper_key
   proper_by_relation f g a range counts =
       rw (counts, le-leb (squares_pair (pair f (second g))) (key_limit_of s) (counts_short f g (f_small f g a range) (g_small f g a range) counts))
 
-  pub improper_by_counts : (f g : List ℤ) (a : List ℕ) → right_counts s f g ≡ false → proper_key s f g a ≡ CountsWrong
+  pub improper_by_counts : (f g : List ℤ) (a : List ℕ) → right_counts s f g ≡ false → proper_key s f g a ≡ Err CountsWrong
   unfolding proper_key
   improper_by_counts f g a counts = rw counts

@@ -1,13 +1,12 @@
 -- The key and its test (01, "Key" and "Numbers that come back"; 02, C-12).
-use Rattle.std.specs.Prelude.{Bool, ◌&&◌, cond, List, [], ◌∷◌, map, ℕ, ◌+◌, eqb, leb, ltb, ℤ, pos, nat_abs, ◌+ℤ◌, ◌*ℤ◌}
+use Rattle.std.specs.Prelude.{Bool, ◌&&◌, cond, List, [], ◌∷◌, map, ℕ, ◌+◌, eqb, leb, ltb, ℤ, pos, nat_abs, ◌+ℤ◌, ◌*ℤ◌, Err}
 use Rattle.laws.specs.Integers.{residue}
 use Rattle.laws.specs.Lists.{every, same}
 use Rattle.laws.specs.Refusals.{must}
 use Rattle.sets.specs.declared.Set.{Set}
 use Rattle.sets.specs.Numbers.{modulus, key_limit_of, ones_of, twos_of, asked_of}
-use Rattle.answers.specs.declared.Outcome.{Outcome}
-use Rattle.answers.specs.declared.Outcome.TheVariants.{Done, UnknownSet, WrongLength, CoefficientOutside, RelationBroken, KeyTooLong, CountsWrong}
-use Rattle.answers.specs.Outcomes.{for_set}
+use Rattle.answers.specs.Outcomes.{Outcome, Done, for_set}
+use Rattle.answers.specs.declared.Refusal.TheVariants.{UnknownSet, WrongLength, CoefficientOutside, RelationBroken, KeyTooLong, CountsWrong}
 use Rattle.polynomials.specs.Product.{product}
 use Rattle.vectors.specs.Vectors.{sized, within}
 use Rattle.vectors.specs.Pairs.{pair, squares_pair}
@@ -52,18 +51,18 @@ right_counts s f g = has_counts s f && has_counts s g
 -- 15, 7, 6; 7 can't occur (`no_key_too_long`).
 unfoldable pub proper_key : Set → List ℤ → List ℤ → List ℕ → Outcome
 proper_key s f g a =
-    must (right_counts s f g) CountsWrong
-    (must (leb (squares_pair (pair f (second g))) (key_limit_of s)) KeyTooLong
-    (must (relation a f (second g)) RelationBroken
+    must (right_counts s f g) (Err CountsWrong)
+    (must (leb (squares_pair (pair f (second g))) (key_limit_of s)) (Err KeyTooLong)
+    (must (relation a f (second g)) (Err RelationBroken)
     Done))
 
 -- the key test for a set: 2, 3, 15, 7, 6
 abbrev pub key_test_of : Set → List ℤ → List ℤ → List ℕ → Outcome
 key_test_of s f g a =
-    must (sized f && (sized g && sized a)) WrongLength
-    (must (in_range f g a) CoefficientOutside
+    must (sized f && (sized g && sized a)) (Err WrongLength)
+    (must (in_range f g a) (Err CoefficientOutside)
     (proper_key s f g a))
 
 -- the key test: 1, 2, 3, 15, 7, 6
 unfoldable pub key_test : ℕ → List ℤ → List ℤ → List ℕ → Outcome
-key_test set f g a = for_set (asked_of set) UnknownSet (λ s. key_test_of s f g a)
+key_test set f g a = for_set (asked_of set) (Err UnknownSet) (λ s. key_test_of s f g a)

@@ -2,7 +2,11 @@
 ghost use Rattle.std.specs.Prelude.{◌≡◌, ◌+◌, ◌≤◌, length};
 ghost use Rattle.sets.specs.Numbers.{dimension, list_limit};
 
-use sets::Set;
+use sets::{Polynomial, Set};
+use std::array;
+
+// One entry more than a vector has.
+pub const TOO_LONG: usize = Set::DIMENSION + 1;
 
 // One place more than the longest list has.
 pub const PLACES: usize = Set::LIST_LIMIT + 1;
@@ -12,33 +16,15 @@ pub fn places(at: usize, place: u16) -> [u16; PLACES]
     requires { at ≤ list_limit }
     ensures { length result ≡ list_limit + 1 }
 {
-    let mut list = [0u16; PLACES];
-    for i in 0..PLACES {
-        list[i] = i as u16;
-    }
+    let mut list: [u16; PLACES] = array::from_fn(|i| i as u16);
     list[at] = place;
     list
 }
 
 // A row whose first entries are this one, and 0 after them.
-pub fn narrow(count: usize, entry: i8) -> [i8; Set::DIMENSION]
+pub fn row<T: Copy + Default>(count: usize, entry: T) -> Polynomial<T>
     requires { count ≤ dimension }
     ensures { length result ≡ dimension }
 {
-    let mut row = [0i8; Set::DIMENSION];
-    for i in 0..count {
-        row[i] = entry;
-    }
-    row
-}
-
-pub fn wide(count: usize, entry: i16) -> [i16; Set::DIMENSION]
-    requires { count ≤ dimension }
-    ensures { length result ≡ dimension }
-{
-    let mut row = [0i16; Set::DIMENSION];
-    for i in 0..count {
-        row[i] = entry;
-    }
-    row
+    array::from_fn(|i| if i < count { entry } else { T::default() })
 }

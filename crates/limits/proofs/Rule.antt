@@ -12,9 +12,9 @@ use lib.ListN.{length, get_or}
 use Rattle.laws.specs.Refusals.{must}
 use Rattle.sets.specs.declared.Set.{Set}
 use Rattle.sets.specs.Numbers.{dimension, d_of, largest_of, bound_squared_of}
-use Rattle.answers.specs.declared.Outcome.{Outcome}
-use Rattle.answers.specs.declared.Outcome.TheVariants.{Done, EntryBeyond, SumAbove}
-use Rattle.answers.specs.Outcomes.{is_done, unless}
+use Rattle.answers.specs.Outcomes.{Outcome, Done, is_done, unless}
+use Rattle.std.specs.Prelude.{Err}
+use Rattle.answers.specs.declared.Refusal.TheVariants.{EntryBeyond, SumAbove}
 use Rattle.answers.proofs.Calls.{done_test, done_next}
 use Rattle.vectors.specs.Vectors.{squares}
 use Rattle.vectors.proofs.Sums.{squares_le}
@@ -27,22 +27,22 @@ module _ (limit factor : ℕ) (next : Outcome) where
   entries_then place [] = refl
   entries_then place (a ∷ x) = either _ _ (leb (factor * nat_abs a) limit) (entries_then (suc place) x)
     where
-      either : (p q : Outcome) (b : Bool) → p ≡ unless q (λ o. o) next → must b (EntryBeyond place) p ≡ unless (must b (EntryBeyond place) q) (λ o. o) next
+      either : (p q : Outcome) (b : Bool) → p ≡ unless q (λ o. o) next → must b (Err (EntryBeyond place)) p ≡ unless (must b (Err (EntryBeyond place)) q) (λ o. o) next
       either p q true e = e
       either p q false e = refl
 
   pub entries_within : (place : ℕ) (x : List ℤ) → is_done (entries limit factor place x next) ≡ true → (k : ℕ) → factor * nat_abs (get_or x k (pos 0)) ≤ limit
   unfolding entries
   entries_within place [] e k = omega arith
-  entries_within place (a ∷ x) e zero = leb-true _ limit (done_test (EntryBeyond place) (entries limit factor (suc place) x next) refl _ e)
+  entries_within place (a ∷ x) e zero = leb-true _ limit (done_test (Err (EntryBeyond place)) (entries limit factor (suc place) x next) refl _ e)
   entries_within place (a ∷ x) e (suc k) =
-      entries_within (suc place) x (done_next (EntryBeyond place) (entries limit factor (suc place) x next) refl (leb (factor * nat_abs a) limit) e) k
+      entries_within (suc place) x (done_next (Err (EntryBeyond place)) (entries limit factor (suc place) x next) refl (leb (factor * nat_abs a) limit) e) k
 
   pub entries_next : (place : ℕ) (x : List ℤ) → is_done (entries limit factor place x next) ≡ true → is_done next ≡ true
   unfolding entries
   entries_next place [] e = e
   entries_next place (a ∷ x) e =
-      entries_next (suc place) x (done_next (EntryBeyond place) (entries limit factor (suc place) x next) refl (leb (factor * nat_abs a) limit) e)
+      entries_next (suc place) x (done_next (Err (EntryBeyond place)) (entries limit factor (suc place) x next) refl (leb (factor * nat_abs a) limit) e)
 
 -- a vector whose entries are within a limit of 15 bits, times a factor or not, has a squared length of 39 bits
 pub squares_small : (limit factor place : ℕ) (x : List ℤ) → limit < 2 ^ 15 → 1 ≤ factor → length x ≡ dimension → is_done (entries limit factor place x Done) ≡ true
@@ -54,7 +54,7 @@ squares_small limit factor place x small one long e = omega (arith, squares_le 3
 
 module _ (s : Set) (z1 z2 : List ℤ) where
   abbrev sum_test : Outcome
-  sum_test = must (leb (squares z1 + 4 ^ d_of s * squares z2) (bound_squared_of s)) SumAbove Done
+  sum_test = must (leb (squares z1 + 4 ^ d_of s * squares z2) (bound_squared_of s)) (Err SumAbove) Done
 
   abbrev second_test : Outcome
   second_test = entries (largest_of s) (2 ^ d_of s) dimension z2 sum_test
@@ -82,4 +82,4 @@ module _ (s : Set) (z1 z2 : List ℤ) where
     second_within = entries_within (largest_of s) (2 ^ d_of s) sum_test dimension z2 after_first
 
     pub sum_within : squares z1 + 4 ^ d_of s * squares z2 ≤ bound_squared_of s
-    sum_within = leb-true _ _ (done_test SumAbove Done refl _ (entries_next (largest_of s) (2 ^ d_of s) sum_test dimension z2 after_first))
+    sum_within = leb-true _ _ (done_test (Err SumAbove) Done refl _ (entries_next (largest_of s) (2 ^ d_of s) sum_test dimension z2 after_first))

@@ -14,11 +14,9 @@ use Rattle.laws.proofs.Congruence.{Cong}
 use Rattle.laws.proofs.Loops.{is_same}
 use Rattle.laws.proofs.Entries.{length-zip_with, get_or-zip_with, get_or-map}
 use Rattle.sets.specs.declared.Set.{Set}
-use Rattle.sets.specs.declared.Asked.TheVariants.{Known}
+use Rattle.std.specs.Prelude.{Some}
 use Rattle.sets.specs.Numbers.{dimension, modulus, twice_modulus, asked_of}
-use Rattle.answers.specs.declared.Outcome.{Outcome}
-use Rattle.answers.specs.declared.Outcome.TheVariants.{Done}
-use Rattle.answers.specs.Outcomes.{number_of, filled}
+use Rattle.answers.specs.Outcomes.{Outcome, Done, number_of, filled}
 use Rattle.answers.proofs.Calls.{zero_is}
 use Rattle.polynomials.specs.Product.{one}
 use Rattle.rounding.specs.Rounding.{upper, dagger, restored}
@@ -154,7 +152,7 @@ module _ (s : Set) (c : Lent) (before : Admitted s c) where
 pub sized_yes : {A : Type 0} (x : List A) → length x ≡ dimension → sized x ≡ true
 sized_yes x e = eq-eqb (length x) dimension e
 
-module _ (set : ℕ) (s : Set) (known : asked_of set ≡ Known s) (a : List ℕ) (la : length a ≡ dimension) (residues : every is_residue a ≡ true) where
+module _ (set : ℕ) (s : Set) (known : asked_of set ≡ Some s) (a : List ℕ) (la : length a ≡ dimension) (residues : every is_residue a ≡ true) where
   -- the commitment, where nothing is to be refused
   commitment_done : (y1 y2 : List ℤ) (out : List ℕ) → length y1 ≡ dimension → length y2 ≡ dimension → length out ≡ dimension → are_masks y1 y2 ≡ true
       → commitment set a y1 y2 out ≡ filled Done (committed s a y1 y2)
@@ -170,7 +168,7 @@ module _ (set : ℕ) (s : Set) (known : asked_of set ≡ Known s) (a : List ℕ)
       rw (known, sized_yes a la, sized_yes z1 lz1, sized_yes z2 lz2, sized_yes out lo, residues, proper, rule)
 
 -- the writer, where nothing is to be refused
-writes_done : (form : Form) (set key : ℕ) (s : Set) (z1 z2 : List ℤ) (l out : List ℕ) → asked_of set ≡ Known s → length z1 ≡ dimension → length z2 ≡ dimension
+writes_done : (form : Form) (set key : ℕ) (s : Set) (z1 z2 : List ℤ) (l out : List ℕ) → asked_of set ≡ Some s → length z1 ≡ dimension → length z2 ≡ dimension
     → proper_list s l ≡ true → length_rule s z1 z2 ≡ Done → total_of form s ≤ length out
     → writing_of form (offered set key z1 z2 l) out ≡ filled Done (record_of form (signature s key z1 z2 l) ++ drop (total_of form s) out)
 unfolding writing_of writing_for recorded_to put_to refusal_for
@@ -202,7 +200,7 @@ given_out_is_accepted set key c o count back z1 z2 before old e zero lb lo =
 -- the writer makes its record, with the key number that was lent
 pub given_out_is_written : (form : Form) (set key : ℕ) (s : Set) (c : Lent) (o : Outcome) (count back : ℕ) (z1 z2 : List ℤ) (out : List ℕ)
     → response set key c ≡ responded o count back z1 z2
-    → number_of o ≡ 0 → asked_of set ≡ Known s → total_of form s ≤ length out
+    → number_of o ≡ 0 → asked_of set ≡ Some s → total_of form s ≤ length out
     → writing_of form (offered set back z1 z2 c.list) out ≡ filled Done (record_of form (signature s key z1 z2 c.list) ++ drop (total_of form s) out)
 given_out_is_written form set key s c o count back z1 z2 out e zero known room =
     let given = given_out c count z1 z2 set key back (e ∙ ap (λ (p : Outcome). responded p count back z1 z2) (zero_is o zero)) in
@@ -226,7 +224,7 @@ reaches_the_draw set key' s c h b =
 
 -- ---- both sentences
 -- a proper list and the same list
-pub same_list : (set : ℕ) (s : Set) (l : List ℕ) → asked_of set ≡ Known s → proper_list s l ≡ true → number_of (comparison set l l) ≡ 0
+pub same_list : (set : ℕ) (s : Set) (l : List ℕ) → asked_of set ≡ Some s → proper_list s l ≡ true → number_of (comparison set l l) ≡ 0
 unfolding comparison
 same_list set s l known proper = rw (known, proper, is_same l)
 
@@ -239,5 +237,5 @@ demand_3 set s c before old h b lb lo = (
       (same_list set s c.list h.asked h.list, rw own at accepted.2, rw own at accepted.3),
 )
   where
-    the_set : (m n : Set) → Known m ≡ Known n → m ≡ n
+    the_set : (m n : Set) → Some m ≡ Some n → m ≡ n
     the_set m n e = cc

@@ -12,12 +12,11 @@ use lib.ListN.{length}
 use Rattle.laws.specs.Lists.{every}
 use Rattle.laws.proofs.Chain.{and_left, and_right, must_cases}
 use Rattle.sets.specs.declared.Set.{Set}
-use Rattle.sets.specs.declared.Asked.TheVariants.{Known}
+use Rattle.std.specs.Prelude.{Some, Err}
 use Rattle.sets.specs.Numbers.{dimension, key_limit_of, ones_of, twos_of, asked_of}
 use Rattle.sets.proofs.Alike.{computed, of_all, counts_fit}
-use Rattle.answers.specs.declared.Outcome.{Outcome}
-use Rattle.answers.specs.declared.Outcome.TheVariants.{UnknownSet, WrongLength, CoefficientOutside, MaskOutside, ImproperList}
-use Rattle.answers.specs.Outcomes.{number_of, is_done, Filled, filled}
+use Rattle.answers.specs.Outcomes.{Outcome, number_of, is_done, Filled, filled}
+use Rattle.answers.specs.declared.Refusal.TheVariants.{UnknownSet, WrongLength, CoefficientOutside, MaskOutside, ImproperList}
 use Rattle.answers.proofs.Calls.{zero_is}
 use Rattle.vectors.specs.Vectors.{sized, squares}
 use Rattle.vectors.specs.Pairs.{Pair, pair, squares_pair}
@@ -109,7 +108,7 @@ both_counts s f g cf cg = rw (has_counts_lem s f cf, has_counts_lem s g cg)
 
 -- ---- what passes the key test
 passes_counts : (set : ℕ) (f g : List ℤ) (a : List ℕ) → number_of (key_test set f g a) ≡ 0
-    → (s : Set) × (asked_of set ≡ Known s) × Counts s f × Counts s g × (length a ≡ dimension) × (every is_residue a ≡ true) × (relation a f (second g) ≡ true)
+    → (s : Set) × (asked_of set ≡ Some s) × Counts s f × Counts s g × (length a ≡ dimension) × (every is_residue a ≡ true) × (relation a f (second g) ≡ true)
 passes_counts set f g a h =
     let tested = key_tested_some set f g a (zero_is _ h) in
     let s = tested.0 in
@@ -128,7 +127,7 @@ in_range_lem : (s : Set) (f g : List ℤ) (a : List ℕ) → Counts s f → Coun
 unfolding in_range
 in_range_lem s f g a cf cg residues = rw (range_of s f cf, range_of s g cg, residues)
 
-counts_pass : (set : ℕ) (s : Set) (f g : List ℤ) (a : List ℕ) → asked_of set ≡ Known s → Counts s f → Counts s g
+counts_pass : (set : ℕ) (s : Set) (f g : List ℤ) (a : List ℕ) → asked_of set ≡ Some s → Counts s f → Counts s g
     → length a ≡ dimension → every is_residue a ≡ true → relation a f (second g) ≡ true → number_of (key_test set f g a) ≡ 0
 unfolding key_test
 counts_pass set s f g a known cf cg long residues related =
@@ -204,9 +203,9 @@ proper_key_lem s f g a range = pick (right_counts s f g) refl
 key_test_lem : (set : ℕ) (f g : List ℤ) (a : List ℕ) → Holds (NotSeven number_of) (key_test set f g a)
 unfolding key_test
 key_test_lem set f g a =
-    set_either (asked_of set) UnknownSet _ (other UnknownSet refl)
-    (λ s. must_either (sized f && (sized g && sized a)) WrongLength _ (other WrongLength refl)
-    (must_cases (Holds (NotSeven number_of)) (in_range f g a) CoefficientOutside _ (proper_key_lem s f g a) (λ e. other CoefficientOutside refl)))
+    set_either (asked_of set) (Err UnknownSet) _ (other (Err UnknownSet) refl)
+    (λ s. must_either (sized f && (sized g && sized a)) (Err WrongLength) _ (other (Err WrongLength) refl)
+    (must_cases (Holds (NotSeven number_of)) (in_range f g a) (Err CoefficientOutside) _ (proper_key_lem s f g a) (λ e. other (Err CoefficientOutside) refl)))
 
 comparison_holds : (set : ℕ) (claimed hashed : List ℕ) → Holds (NotSeven number_of) (comparison set claimed hashed)
 unfolding comparison
@@ -252,18 +251,18 @@ draw_holds s d v = search others depth 10
 response_for_lem : (s : Set) (c : Lent) → Holds (NotSeven of_response) (response_for s c)
 unfolding response_for
 response_for_lem s c =
-    must_either (all_sized c) (early c WrongLength) _ (in_response WrongLength 0 _ _ (other WrongLength refl))
-    (must_cases (Holds (NotSeven of_response)) (in_range c.f c.g c.a) (early c CoefficientOutside) _
+    must_either (all_sized c) (early c (Err WrongLength)) _ (in_response (Err WrongLength) 0 _ _ (other (Err WrongLength) refl))
+    (must_cases (Holds (NotSeven of_response)) (in_range c.f c.g c.a) (early c (Err CoefficientOutside)) _
     (λ range.
-    must_either (are_masks c.y1 c.y2) (early c MaskOutside) _ (in_response MaskOutside 0 _ _ (other MaskOutside refl))
-    (must_either (proper_list s c.list) (early c ImproperList) _ (in_response ImproperList 0 _ _ (other ImproperList refl))
+    must_either (are_masks c.y1 c.y2) (early c (Err MaskOutside)) _ (in_response (Err MaskOutside) 0 _ _ (other (Err MaskOutside) refl))
+    (must_either (proper_list s c.list) (early c (Err ImproperList)) _ (in_response (Err ImproperList) 0 _ _ (other (Err ImproperList) refl))
     (must_either (is_done (proper_key s c.f c.g c.a)) (early c (proper_key s c.f c.g c.a)) _
     (in_response _ 0 _ _ (proper_key_lem s c.f c.g c.a range)) (draw_holds s (drawing c) (choices (secret c) c.list)))))
-    (λ e. in_response CoefficientOutside 0 _ _ (other CoefficientOutside refl)))
+    (λ e. in_response (Err CoefficientOutside) 0 _ _ (other (Err CoefficientOutside) refl)))
 
 response_holds : (set : ℕ) (c : Lent) → Holds (NotSeven of_response) (responding set c)
 unfolding responding
-response_holds set c = set_either (asked_of set) (early c UnknownSet) (λ s. response_for s c) (in_response UnknownSet 0 _ _ (other UnknownSet refl)) (λ s. response_for_lem s c)
+response_holds set c = set_either (asked_of set) (early c (Err UnknownSet)) (λ s. response_for s c) (in_response (Err UnknownSet) 0 _ _ (other (Err UnknownSet) refl)) (λ s. response_for_lem s c)
 
 commitment_holds : (set : ℕ) (a : List ℕ) (y1 y2 : List ℤ) (out : List ℕ) → Holds (NotSeven of_filled) (commitment set a y1 y2 out)
 unfolding commitment

@@ -10,12 +10,11 @@ use lib.IntN.{ℤ}
 use Rattle.laws.specs.Lists.{every}
 use Rattle.sets.specs.declared.Set.{Set}
 use Rattle.sets.specs.declared.Set.TheVariants.{I, IV}
-use Rattle.sets.specs.declared.Asked.TheVariants.{Known}
+use Rattle.std.specs.Prelude.{Some, Err}
 use Rattle.sets.specs.Numbers.{dimension, kappa_of, asked_of}
 use Rattle.sets.proofs.Alike.{asked_back, asked_zero, default_zero, default_other}
-use Rattle.answers.specs.declared.Outcome.{Outcome}
-use Rattle.answers.specs.declared.Outcome.TheVariants.{Done, ImproperList}
-use Rattle.answers.specs.Outcomes.{filled}
+use Rattle.answers.specs.Outcomes.{Outcome, Done, filled}
+use Rattle.answers.specs.declared.Refusal.TheVariants.{ImproperList}
 use Rattle.answers.proofs.Calls.{zero_is}
 use Rattle.vectors.specs.Places.{proper_list}
 use Rattle.vectors.proofs.Rising.{proper_count}
@@ -67,7 +66,7 @@ default_one_lem = record {
 
 -- ---- both sides
 -- a call's number asks for one set
-the_set : (set : ℕ) (s s' : Set) → asked_of set ≡ Known s → asked_of set ≡ Known s' → s ≡ s'
+the_set : (set : ℕ) (s s' : Set) → asked_of set ≡ Some s → asked_of set ≡ Some s' → s ≡ s'
 the_set set s s' e f = cc
 
 -- a record of set 4 states it
@@ -104,13 +103,13 @@ other_count : (s s' : Set) (l : List ℕ) → (kappa_of s ≡ kappa_of s' → �
 unfolding proper_list
 other_count s s' l h proper = rw (ne_eqb (length l) (kappa_of s') (λ e. h (sym (proper_count s l proper) ∙ e)))
 
-module _ (set : ℕ) (s : Set) (known : asked_of set ≡ Known s) (l : List ℕ) (improper : proper_list s l ≡ false) where
-  comparison_improper : comparison set l l ≡ ImproperList
+module _ (set : ℕ) (s : Set) (known : asked_of set ≡ Some s) (l : List ℕ) (improper : proper_list s l ≡ false) where
+  comparison_improper : comparison set l l ≡ Err ImproperList
   unfolding comparison
   comparison_improper = rw (known, improper)
 
   rebuild_improper : (a : List ℕ) (z1 z2 : List ℤ) (out : List ℕ) → length a ≡ dimension → length z1 ≡ dimension → length z2 ≡ dimension → length out ≡ dimension
-      → every is_residue a ≡ true → rebuild set a (claim z1 z2 l) out ≡ filled ImproperList out
+      → every is_residue a ≡ true → rebuild set a (claim z1 z2 l) out ≡ filled (Err ImproperList) out
   unfolding rebuild
   rebuild_improper a z1 z2 out la l1 l2 lo residues =
       rw (known, sized_yes a la, sized_yes z1 l1, sized_yes z2 l2, sized_yes out lo, residues, improper)
@@ -126,7 +125,7 @@ sheet_of_one key c o count number z1 z2 old e zero lo =
     let accepted = given_out_is_accepted 1 key c o count number z1 z2 old old e zero lo lo in
     let same = the_set 1 accepted.0 I accepted.1 (asked_back I) in (
       (
-        ImproperList,
+        (Err ImproperList),
         rebuild_improper 0 IV asked_zero c.list improper c.a z1 z2 old passed.key.long_a (ap length out.first ∙ z_first given.0 c passed)
             (ap length out.dagger ∙ daggers_512 given.0 c passed) lo (a_residues c.f c.g c.a passed.key.ranges),
         refl,

@@ -5,8 +5,7 @@ use mathlib.Core.List.{List}
 use Prim.Native.Nat.{ℕ}
 use contract.Lifetimes.{Lfts}
 use lib.IntN.{ℤ}
-use Rattle.answers.specs.declared.Outcome.{Outcome}
-use Rattle.answers.specs.Outcomes.{Filled, filled}
+use Rattle.answers.specs.Outcomes.{Outcome, Filled, filled}
 use Rattle.answers.proofs.Slots.{commitment_out, with_rests_out, with_rests_rests, response_z1, response_z2, rebuild_out}
 use Rattle.signing.specs.Response.{Responded, responded}
 use Rattle.keys.proofs.key_test.Reads as key_test

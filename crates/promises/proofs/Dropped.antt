@@ -19,7 +19,7 @@ use Rattle.laws.proofs.Solver.{v, k, ◌⊕◌, ◌⊖◌, ◌⊗◌, ring}
 use Rattle.sets.specs.declared.Set.{Set}
 use Rattle.sets.specs.Numbers.{twice_modulus, d_of, p_of}
 use Rattle.sets.proofs.Alike.{computed, of_all, spread, step_small, p_even, kappa_within}
-use Rattle.answers.specs.declared.Outcome.{Outcome}
+use Rattle.answers.specs.Outcomes.{Outcome}
 use Rattle.answers.proofs.Calls.{zero_is}
 use Rattle.rounding.specs.Rounding.{quotient, upper, rest, centred, dagger}
 use Rattle.rounding.proofs.Laws.{halves, rest_range, rest_completes, centred_alone}

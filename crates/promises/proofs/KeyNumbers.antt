@@ -9,12 +9,10 @@ use lib.ListN.{length, take, drop, get_or, get_or-append}
 use lib.Seq.{get_or-take, get_or-drop, get_or-append-add, drop-drop}
 use Rattle.laws.specs.Refusals.{must}
 use Rattle.sets.specs.declared.Set.{Set}
-use Rattle.sets.specs.declared.Asked.{Asked}
-use Rattle.sets.specs.declared.Asked.TheVariants.{Known, Unknown}
+use Rattle.std.specs.Prelude.{Option, Some, None, Ok, Err}
 use Rattle.sets.specs.Numbers.{list_limit, set_number_of, named_of}
-use Rattle.answers.specs.declared.Outcome.{Outcome}
-use Rattle.answers.specs.declared.Outcome.TheVariants.{Done, HeaderMalformed}
-use Rattle.answers.specs.Outcomes.{is_done, unless, key_with, for_set}
+use Rattle.answers.specs.Outcomes.{Outcome, Done, is_done, unless, key_with, for_set}
+use Rattle.answers.specs.declared.Refusal.TheVariants.{HeaderMalformed}
 use Rattle.answers.proofs.Calls.{zero_is}
 use Rattle.vectors.specs.Vectors.{sized}
 use Rattle.signing.specs.Response.{numbered, response}
@@ -23,10 +21,8 @@ use Rattle.byte_codes.specs.Bytes.{bytes_of}
 use Rattle.byte_codes.proofs.Four.{four_read}
 use Rattle.byte_codes.proofs.Sections.{length_bytes}
 use Rattle.record_forms.specs.declared.Form.{Form}
-use Rattle.record_forms.specs.declared.Header.{Header}
-use Rattle.record_forms.specs.declared.Header.TheVariants.{States, Malformed}
 use Rattle.record_forms.specs.Forms.{letters_of, key_offset, header_length, z1_offset, z2_offset_of, list_offset_of, total_of}
-use Rattle.record_forms.specs.Headers.{fields_of, header_of, key_in, part, agree, spare_bits, set_fields, fields_after, header_in, opened}
+use Rattle.record_forms.specs.Headers.{Header, malformed, fields_of, header_of, key_in, part, agree, spare_bits, set_fields, fields_after, header_in, opened}
 use Rattle.record_forms.proofs.Forms.{z2_after, list_after}
 use Rattle.record_forms.proofs.Stated.{stated, fields_long, part_take}
 use Rattle.record_forms.proofs.KeyNumbers.{key_long}
@@ -124,11 +120,11 @@ module _ {rec rec' : List ℕ} (so : Alike rec rec') where
     unfolding header_in
     header_alike =
         rw (so.long, part_before 0 4 (lit≤ tt) (lit≤ tt), set_at)
-        (ap (λ (h : Header). must (leb header_length (length rec')) (Malformed (length rec')) (must (agree 0 4 rec' (letters_of form)) (Malformed 0) h)) (by_set (named_of (get_or rec' 4 0))))
+        (ap (λ (h : Header). must (leb header_length (length rec')) (malformed (length rec')) (must (agree 0 4 rec' (letters_of form)) (malformed 0) h)) (by_set (named_of (get_or rec' 4 0))))
       where
-        by_set : (a : Asked) → for_set a (Malformed 4) (λ s. fields_after form s (fields_of form s) rec) ≡ for_set a (Malformed 4) (λ s. fields_after form s (fields_of form s) rec')
-        by_set Unknown = refl
-        by_set (Known s) = fields_alike s (fields_of form s)
+        by_set : (a : Option Set) → for_set a (malformed 4) (λ s. fields_after form s (fields_of form s) rec) ≡ for_set a (malformed 4) (λ s. fields_after form s (fields_of form s) rec')
+        by_set None = refl
+        by_set (Some s) = fields_alike s (fields_of form s)
 
     -- the readers
     module _ (b : Buffers) where
@@ -155,10 +151,10 @@ module _ {rec rec' : List ℕ} (so : Alike rec rec') where
           )
           (by_outcome (refusal_of (signature_in form s rec)) (set_number_of s) (key_in rec) _)
 
-      opened_alike : (h : Header) → opened h (λ place. keeping b (HeaderMalformed place)) (λ s. reading_for form s rec' b)
-          ≡ rekeyed (key_in rec') (opened h (λ place. keeping b (HeaderMalformed place)) (λ s. reading_for form s rec b))
-      opened_alike (Malformed place) = refl
-      opened_alike (States s) = reading_for_lem s
+      opened_alike : (h : Header) → opened h (λ place. keeping b (Err (HeaderMalformed place))) (λ s. reading_for form s rec' b)
+          ≡ rekeyed (key_in rec') (opened h (λ place. keeping b (Err (HeaderMalformed place))) (λ s. reading_for form s rec b))
+      opened_alike (Err m) = refl
+      opened_alike (Ok s) = reading_for_lem s
 
       reading_alike : reading_of form rec' b ≡ rekeyed (key_in rec') (reading_of form rec b)
       unfolding reading_of

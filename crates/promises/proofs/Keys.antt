@@ -12,10 +12,10 @@ use Rattle.laws.proofs.Congruence.{Cong}
 use Rattle.laws.proofs.Loops.{same_is}
 use Rattle.laws.proofs.Solver.{v, k, ◌⊕◌, ◌⊗◌, ring}
 use Rattle.sets.specs.declared.Set.{Set}
-use Rattle.sets.specs.declared.Asked.TheVariants.{Known}
+use Rattle.std.specs.Prelude.{Some, Err}
 use Rattle.sets.specs.Numbers.{dimension, key_limit_of, asked_of}
-use Rattle.answers.specs.declared.Outcome.TheVariants.{Done, UnknownSet, WrongLength, CoefficientOutside, RelationBroken, KeyTooLong, CountsWrong}
-use Rattle.answers.specs.Outcomes.{number_of, is_done, for_set}
+use Rattle.answers.specs.declared.Refusal.TheVariants.{UnknownSet, WrongLength, CoefficientOutside, RelationBroken, KeyTooLong, CountsWrong}
+use Rattle.answers.specs.Outcomes.{Done, number_of, is_done, for_set}
 use Rattle.answers.proofs.Calls.{zero_is}
 use Rattle.polynomials.specs.Product.{product, one}
 use Rattle.polynomials.proofs.Carries.{Carries}
@@ -34,9 +34,9 @@ module _ (s : Set) (f g : List ℤ) (a : List ℕ) (h : proper_key s f g a ≡ D
   tests : (right_counts s f g ≡ true) × (leb (squares_pair (pair f (second g))) (key_limit_of s) ≡ true) × (relation a f (second g) ≡ true)
   unfolding proper_key
   tests =
-      let first = must_passed itself (right_counts s f g) CountsWrong _ refl (ap is_done h) in
-      let next = must_passed itself (leb (squares_pair (pair f (second g))) (key_limit_of s)) KeyTooLong _ refl first.1 in
-      (first.0, next.0, (must_passed itself (relation a f (second g)) RelationBroken Done refl next.1).0)
+      let first = must_passed itself (right_counts s f g) (Err CountsWrong) _ refl (ap is_done h) in
+      let next = must_passed itself (leb (squares_pair (pair f (second g))) (key_limit_of s)) (Err KeyTooLong) _ refl first.1 in
+      (first.0, next.0, (must_passed itself (relation a f (second g)) (Err RelationBroken) Done refl next.1).0)
 
   -- the counts are right
   pub key_counts : right_counts s f g ≡ true
@@ -62,14 +62,14 @@ pub record Tested (s : Set) (f g : List ℤ) (a : List ℕ) : Type 0 where
   pub proper : proper_key s f g a ≡ Done
 
 -- a key that passes for a set number passes for the set asked for
-pub key_tested_for : (set : ℕ) (s : Set) (f g : List ℤ) (a : List ℕ) → asked_of set ≡ Known s → key_test set f g a ≡ Done → key_test_of s f g a ≡ Done
+pub key_tested_for : (set : ℕ) (s : Set) (f g : List ℤ) (a : List ℕ) → asked_of set ≡ Some s → key_test set f g a ≡ Done → key_test_of s f g a ≡ Done
 unfolding key_test
-key_tested_for set s f g a known h = ap (λ asked. for_set asked UnknownSet (λ m. key_test_of m f g a)) (sym known) ∙ h
+key_tested_for set s f g a known h = ap (λ asked. for_set asked (Err UnknownSet) (λ m. key_test_of m f g a)) (sym known) ∙ h
 
 pub key_tested : (s : Set) (f g : List ℤ) (a : List ℕ) → key_test_of s f g a ≡ Done → Tested s f g a
 key_tested s f g a h =
-    let first = must_passed itself (sized f && (sized g && sized a)) WrongLength _ refl (ap is_done h) in
-    let next = must_passed itself (in_range f g a) CoefficientOutside (proper_key s f g a) refl first.1 in
+    let first = must_passed itself (sized f && (sized g && sized a)) (Err WrongLength) _ refl (ap is_done h) in
+    let next = must_passed itself (in_range f g a) (Err CoefficientOutside) (proper_key s f g a) refl first.1 in
     let long = sized_three f g a first.0 in
     record {
       long_f = long.0;
@@ -80,13 +80,13 @@ key_tested s f g a h =
     }
 
 -- of what a signing call is lent
-pub passing : (set : ℕ) (s : Set) (c : Lent) → asked_of set ≡ Known s → number_of (key_test set c.f c.g c.a) ≡ 0 → Tested s c.f c.g c.a
+pub passing : (set : ℕ) (s : Set) (c : Lent) → asked_of set ≡ Some s → number_of (key_test set c.f c.g c.a) ≡ 0 → Tested s c.f c.g c.a
 passing set s c known passes = key_tested s c.f c.g c.a (key_tested_for set s c.f c.g c.a known (zero_is _ passes))
 
-pub key_tested_some : (set : ℕ) (f g : List ℤ) (a : List ℕ) → key_test set f g a ≡ Done → (s : Set) × (asked_of set ≡ Known s) × Tested s f g a
+pub key_tested_some : (set : ℕ) (f g : List ℤ) (a : List ℕ) → key_test set f g a ≡ Done → (s : Set) × (asked_of set ≡ Some s) × Tested s f g a
 unfolding key_test
 key_tested_some set f g a h =
-    let known = set_known itself (asked_of set) UnknownSet (λ s. key_test_of s f g a) refl (ap is_done h) in
+    let known = set_known itself (asked_of set) (Err UnknownSet) (λ s. key_test_of s f g a) refl (ap is_done h) in
     (known.0, known.1, key_tested known.0 f g a (sym known.3 ∙ h))
 
 -- ---- s1 and s2

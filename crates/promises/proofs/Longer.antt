@@ -13,11 +13,10 @@ use Rattle.laws.proofs.Chain.{differ}
 use Rattle.laws.proofs.Loops.{same_is}
 use Rattle.laws.proofs.Entries.{length-tabulate, get_or-tabulate, every_at}
 use Rattle.sets.specs.declared.Set.{Set}
-use Rattle.sets.specs.declared.Asked.{Asked}
-use Rattle.sets.specs.declared.Asked.TheVariants.{Known, Unknown}
+use Rattle.std.specs.Prelude.{Option, Some, None, Err}
 use Rattle.sets.specs.Numbers.{set_number_of, last_number, numbered, named_of, asked_of}
 use Rattle.sets.proofs.Alike.{computed, of_all, named_is, number_within, asked_named, asked_back}
-use Rattle.answers.specs.declared.Outcome.TheVariants.{UnknownSet}
+use Rattle.answers.specs.declared.Refusal.TheVariants.{UnknownSet}
 use Rattle.rounding.specs.Rounding.{quotient, upper, rest}
 use Rattle.limits.specs.LengthRule.{length_rule}
 use Rattle.keys.specs.Key.{proper_key, key_test}
@@ -75,43 +74,43 @@ keys_of_four s s' e = record {
 }
 
 -- ---- no set above 8
-unknown_above : (n : ℕ) → last_number < n → asked_of n ≡ Unknown
+unknown_above : (n : ℕ) → last_number < n → asked_of n ≡ None
 unknown_above n h = answer (asked_of n) refl
   where
-    answer : (a : Asked) → asked_of n ≡ a → a ≡ Unknown
-    answer Unknown e = refl
-    answer (Known s) e = absurd (omega (arith, h, number_within s, named_is s n (sym (asked_named n (λ z. omega (arith, h, z))) ∙ e)))
+    answer : (a : Option Set) → asked_of n ≡ a → a ≡ None
+    answer None e = refl
+    answer (Some s) e = absurd (omega (arith, h, number_within s, named_is s n (sym (asked_named n (λ z. omega (arith, h, z))) ∙ e)))
 
-abbrev is_known : Asked → Bool
-is_known Unknown = false
-is_known (Known s) = true
+abbrev is_known : Option Set → Bool
+is_known None = false
+is_known (Some s) = true
 
-known_is : (a : Asked) → is_known a ≡ true → (s : Set) × (a ≡ Known s)
-known_is Unknown e = absurd (differ e)
-known_is (Known s) e = (s, refl)
+known_is : (a : Option Set) → is_known a ≡ true → (s : Set) × (a ≡ Some s)
+known_is None e = absurd (differ e)
+known_is (Some s) e = (s, refl)
 
 -- computed by the checker
 known_to_last : every is_known (tabulate asked_of (last_number + 1)) ≡ true
 unfolding every tabulate asked_of named_of numbered
 known_to_last = refl
 
-known_within : (n : ℕ) → n ≤ last_number → (s : Set) × (asked_of n ≡ Known s)
+known_within : (n : ℕ) → n ≤ last_number → (s : Set) × (asked_of n ≡ Some s)
 known_within n h =
     let k : n < last_number + 1 = omega (arith, h) in
     let long = length-tabulate asked_of (last_number + 1) in
-    let known = every_at is_known (tabulate asked_of (last_number + 1)) n Unknown known_to_last (omega (arith, k, long)) in
-    known_is (asked_of n) (rw (get_or-tabulate asked_of (last_number + 1) n Unknown k) at known)
+    let known = every_at is_known (tabulate asked_of (last_number + 1)) n None known_to_last (omega (arith, k, long)) in
+    known_is (asked_of n) (rw (get_or-tabulate asked_of (last_number + 1) n None k) at known)
 
-no_set : (n : ℕ) → asked_of n ≡ Unknown → NoSet n
+no_set : (n : ℕ) → asked_of n ≡ None → NoSet n
 unfolding key_test commitment commitment_with_rests responding response rebuild comparison writing_of
 no_set n e = record {
   key_tests = λ f g a. rw e;
-  commitments = λ a y1 y2 out. (UnknownSet, rw e, refl);
+  commitments = λ a y1 y2 out. ((Err UnknownSet), rw e, refl);
   commitments_with_rests = λ a y1 y2 old. rw e;
   responses = λ key c. rw e;
-  rebuilds = λ a c out. (UnknownSet, rw e, refl);
+  rebuilds = λ a c out. ((Err UnknownSet), rw e, refl);
   comparisons = λ claimed hashed. rw e;
-  writers = λ form key z1 z2 l out. (UnknownSet, rw e, refl);
+  writers = λ form key z1 z2 l out. ((Err UnknownSet), rw e, refl);
   kappas = rw e;
   records = λ form. rw e;
 }

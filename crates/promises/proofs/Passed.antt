@@ -5,11 +5,8 @@ use Prim.Native.Nat.{ℕ}
 use Rattle.laws.specs.Refusals.{must}
 use Rattle.laws.proofs.Chain.{differ}
 use Rattle.sets.specs.declared.Set.{Set}
-use Rattle.sets.specs.declared.Asked.{Asked}
-use Rattle.sets.specs.declared.Asked.TheVariants.{Known, Unknown}
-use Rattle.answers.specs.declared.Outcome.{Outcome}
-use Rattle.answers.specs.declared.Outcome.TheVariants.{Done}
-use Rattle.answers.specs.Outcomes.{is_done, unless, for_set}
+use Rattle.std.specs.Prelude.{Option, Some, None}
+use Rattle.answers.specs.Outcomes.{Outcome, Done, is_done, unless, for_set}
 use Rattle.answers.proofs.Calls.{done_is}
 use Rattle.draw.specs.declared.Ending.{Ending}
 use Rattle.draw.specs.declared.Ending.TheVariants.{Accepted, Rejected, OutOfWords}
@@ -44,10 +41,10 @@ module _ {A : Type 0} (outcome : A → Outcome) where
       pick false e h = absurd (differ (sym e ∙ ap is_done (sym same) ∙ h))
 
   -- a set that must be known
-  pub set_known : (asked : Asked) (refusal : A) (next : Set → A) → Refusal refusal → Finished (for_set asked refusal next)
-      → (s : Set) × (asked ≡ Known s) × Finished (next s) × (for_set asked refusal next ≡ next s)
-  set_known (Known s) refusal next n h = (s, refl, h, refl)
-  set_known Unknown refusal next n h = absurd (differ (sym n ∙ h))
+  pub set_known : (asked : Option Set) (refusal : A) (next : Set → A) → Refusal refusal → Finished (for_set asked refusal next)
+      → (s : Set) × (asked ≡ Some s) × Finished (next s) × (for_set asked refusal next ≡ next s)
+  set_known (Some s) refusal next n h = (s, refl, h, refl)
+  set_known None refusal next n h = absurd (differ (sym n ∙ h))
 
   -- a walk that must end in success
   pub walk_accepted : (ending : Ending) (accepted rejected : ℕ → A) (short : A) → ((n : ℕ) → Refusal (rejected n)) → Refusal short

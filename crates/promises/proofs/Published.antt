@@ -16,9 +16,7 @@ use Rattle.laws.proofs.Congruence.{Cong, cong_eq, cong_refl, cong_add, cong_sym,
 use Rattle.laws.proofs.Entries.{length-zip_with, get_or-zip_with, get_or-map, length-tabulate, get_or-tabulate}
 use Rattle.laws.proofs.Solver.{v, k, ◌⊕◌, ◌⊖◌, ◌⊗◌, ring}
 use Rattle.sets.specs.Numbers.{dimension, modulus, twice_modulus, factor, d_of, largest_of}
-use Rattle.answers.specs.declared.Outcome.{Outcome}
-use Rattle.answers.specs.declared.Outcome.TheVariants.{Done}
-use Rattle.answers.specs.Outcomes.{number_of}
+use Rattle.answers.specs.Outcomes.{Outcome, Done, number_of}
 use Rattle.answers.proofs.Calls.{zero_is}
 use Rattle.polynomials.specs.Product.{wrapped, coefficient, times, product, one}
 use Rattle.polynomials.proofs.Carries.{Carries}

@@ -11,12 +11,10 @@ use lib.IntN.{ℤ, nat_abs}
 use lib.ListN.{length}
 use Rattle.laws.specs.Refusals.{must}
 use Rattle.sets.specs.declared.Set.{Set}
-use Rattle.sets.specs.declared.Asked.{Asked}
-use Rattle.sets.specs.declared.Asked.TheVariants.{Known, Unknown}
+use Rattle.std.specs.Prelude.{Option, Some, None, Ok, Err}
 use Rattle.sets.specs.Numbers.{default_one}
-use Rattle.answers.specs.declared.Outcome.{Outcome}
-use Rattle.answers.specs.declared.Outcome.TheVariants.{Done, DrawRejected, WordMissing, EntryBeyond, SumAbove}
-use Rattle.answers.specs.Outcomes.{number_of, for_set, Filled, filled}
+use Rattle.answers.specs.Outcomes.{Outcome, Done, number_of, for_set, Filled, filled}
+use Rattle.answers.specs.declared.Refusal.TheVariants.{DrawRejected, WordMissing, EntryBeyond, SumAbove}
 use Rattle.answers.proofs.Calls.{zero_is}
 use Rattle.limits.specs.LengthRule.{entries, length_rule}
 use Rattle.keys.specs.Key.{proper_key}
@@ -27,9 +25,7 @@ use Rattle.draw.specs.Draw.{after_walk}
 use Rattle.signing.specs.Response.{Lent, Unnumbered, unnumbered, drawn, response_for, responding}
 use Rattle.signing.proofs.Numbered.{key_refused, unnumbered_of}
 use Rattle.checking.specs.Checking.{Claim, rebuild}
-use Rattle.record_forms.specs.declared.Header.{Header}
-use Rattle.record_forms.specs.declared.Header.TheVariants.{States, Malformed}
-use Rattle.record_forms.specs.Headers.{opened}
+use Rattle.record_forms.specs.Headers.{Header, opened}
 use Rattle.record_forms.specs.declared.Form.{Form}
 use Rattle.records.specs.Writer.{put_to, recorded_to, writing_for, Offered, writing_of}
 use Rattle.records.specs.Reader.{Found, found, Buffers, reading_for, reading_of}
@@ -48,9 +44,9 @@ module _ {A : Type 0} {P : A → Type 0} where
   must_either true refusal next p q = q
   must_either false refusal next p q = p
 
-  pub set_either : (asked : Asked) (refusal : A) (next : Set → A) → Holds P refusal → ((s : Set) → Holds P (next s)) → Holds P (for_set asked refusal next)
-  set_either (Known s) refusal next p q = q s
-  set_either Unknown refusal next p q = p
+  pub set_either : (asked : Option Set) (refusal : A) (next : Set → A) → Holds P refusal → ((s : Set) → Holds P (next s)) → Holds P (for_set asked refusal next)
+  set_either (Some s) refusal next p q = q s
+  set_either None refusal next p q = p
 
   pub walk_either : (ending : Ending) (accepted rejected : ℕ → A) (short : A) → ((n : ℕ) → Holds P (accepted n)) → ((n : ℕ) → Holds P (rejected n)) → Holds P short
       → Holds P (after_walk ending accepted rejected short)
@@ -60,8 +56,8 @@ module _ {A : Type 0} {P : A → Type 0} where
 
   pub header_either : (header : Header) (malformed : ℕ → A) (states : Set → A) → ((place : ℕ) → Holds P (malformed place)) → ((s : Set) → Holds P (states s))
       → Holds P (opened header malformed states)
-  header_either (Malformed place) malformed states p q = p place
-  header_either (States s) malformed states p q = q s
+  header_either (Err m) malformed states p q = p m.place
+  header_either (Ok s) malformed states p q = q s
 
 pub ruleset ways = (rules, must_either, set_either, walk_either, header_either)
 
@@ -174,10 +170,10 @@ early o h = record { is = eqb-false (number_of o) 9 h }
 abbrev pub Late : Outcome → Type 0
 Late o = 1 ≤ number_of o → (10 ≤ number_of o) × (number_of o ≤ 11)
 
-late_beyond : (place : ℕ) → Holds Late (EntryBeyond place)
+late_beyond : (place : ℕ) → Holds Late (Err (EntryBeyond place))
 late_beyond place = record { is = λ n. (lit≤ tt, lit≤ tt) }
 
-late_above : Holds Late SumAbove
+late_above : Holds Late (Err SumAbove)
 late_above = record { is = λ n. (lit≤ tt, lit≤ tt) }
 
 late_done : Holds Late Done
@@ -187,7 +183,7 @@ late_entries : (limit factor place : ℕ) (x : List ℤ) (next : Outcome) → Ho
 unfolding entries
 late_entries limit factor place [] next h = h
 late_entries limit factor place (y ∷ x) next h =
-    must_either (leb (factor * nat_abs y) limit) (EntryBeyond place) _ (late_beyond place) (late_entries limit factor (suc place) x next h)
+    must_either (leb (factor * nat_abs y) limit) (Err (EntryBeyond place)) _ (late_beyond place) (late_entries limit factor (suc place) x next h)
 
 pub late_rule : (s : Set) (z1 z2 : List ℤ) → Holds Late (length_rule s z1 z2)
 unfolding length_rule
@@ -201,10 +197,10 @@ module _ (lent : ℕ) (z1 z2 : List ℤ) where
   counts_early : (o : Outcome) → Holds Early o → Holds (Counts lent) (unnumbered o 0 z1 z2)
   counts_early o h = record { is = (λ m n. refl, λ e. refl, λ e. absurd (h.is e)) }
 
-  counts_short : Holds (Counts lent) (unnumbered WordMissing lent z1 z2)
+  counts_short : Holds (Counts lent) (unnumbered (Err WordMissing) lent z1 z2)
   counts_short = record { is = (λ m n. absurd (omega arith), λ e. absurd (omega arith), λ e. refl) }
 
-  counts_rejected : (count : ℕ) → Holds (Counts lent) (unnumbered DrawRejected count z1 z2)
+  counts_rejected : (count : ℕ) → Holds (Counts lent) (unnumbered (Err DrawRejected) count z1 z2)
   counts_rejected count = record { is = (λ m n. absurd (omega arith), λ e. absurd (omega arith), λ e. absurd (omega arith)) }
 
   counts_late : (count : ℕ) (o : Outcome) → Holds Late o → Holds (Counts lent) (unnumbered o count z1 z2)

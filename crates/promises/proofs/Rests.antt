@@ -10,12 +10,10 @@ use Rattle.laws.specs.Refusals.{must}
 use Rattle.laws.proofs.Chain.{through, differ}
 use Rattle.laws.proofs.Entries.{get_or-map}
 use Rattle.sets.specs.declared.Set.{Set}
-use Rattle.sets.specs.declared.Asked.{Asked}
-use Rattle.sets.specs.declared.Asked.TheVariants.{Known, Unknown}
+use Rattle.std.specs.Prelude.{Option, Some, None, Err}
 use Rattle.sets.specs.Numbers.{dimension, d_of, p_of, asked_of}
-use Rattle.answers.specs.declared.Outcome.{Outcome}
-use Rattle.answers.specs.declared.Outcome.TheVariants.{Done, UnknownSet}
-use Rattle.answers.specs.Outcomes.{is_done, unless, for_set, filled}
+use Rattle.answers.specs.Outcomes.{Outcome, Done, is_done, unless, for_set, filled}
+use Rattle.answers.specs.declared.Refusal.TheVariants.{UnknownSet}
 use Rattle.answers.proofs.Calls.{zero_is}
 use Rattle.rounding.specs.Rounding.{quotient, upper, rest}
 use Rattle.rounding.specs.Laws.{is_rest}
@@ -46,9 +44,9 @@ module _ (a : List ℕ) (y1 y2 : List ℤ) (old : Outputs) (long : length old.re
       either (is_done both) both (committed s a y1 y2) (rests_of s a y1 y2)
       ∙ ap (λ (b : Bool). unless (tested b a y1 y2) (λ o. filled o old.digits) (filled Done (committed s a y1 y2))) all_sized_lem
 
-  same_asked : (asked : Asked) → digits_of (for_set asked (keeping old UnknownSet) (λ s. with_rests_for s a y1 y2 old)) ≡ for_set asked (filled UnknownSet old.digits) (λ s. commitment_for s a y1 y2 old.digits)
-  same_asked (Known s) = same_for s
-  same_asked Unknown = refl
+  same_asked : (asked : Option Set) → digits_of (for_set asked (keeping old (Err UnknownSet)) (λ s. with_rests_for s a y1 y2 old)) ≡ for_set asked (filled (Err UnknownSet) old.digits) (λ s. commitment_for s a y1 y2 old.digits)
+  same_asked (Some s) = same_for s
+  same_asked None = refl
 
 pub same_digits : SameDigits
 unfolding commitment commitment_with_rests
@@ -107,5 +105,5 @@ pub rests_of_sums : RestsOfSums
 unfolding commitment_with_rests
 rests_of_sums set s a y1 y2 old o digits rests known e zero =
     told s a y1 y2 old digits rests
-    (ap (λ (k : Asked). for_set k (keeping old UnknownSet) (λ s. with_rests_for s a y1 y2 old)) (sym known)
+    (ap (λ (k : Option Set). for_set k (keeping old (Err UnknownSet)) (λ s. with_rests_for s a y1 y2 old)) (sym known)
     ∙ e ∙ ap (λ (p : Outcome). with_rests p digits rests) (zero_is o zero))

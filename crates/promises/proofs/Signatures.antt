@@ -6,11 +6,10 @@ use Prim.Native.Nat.{ℕ}
 use lib.IntN.{ℤ}
 use lib.ListN.{length}
 use Rattle.sets.specs.declared.Set.{Set}
-use Rattle.sets.specs.declared.Asked.TheVariants.{Known}
+use Rattle.std.specs.Prelude.{Some, Err}
 use Rattle.sets.specs.Numbers.{dimension, asked_of}
-use Rattle.answers.specs.declared.Outcome.{Outcome}
-use Rattle.answers.specs.declared.Outcome.TheVariants.{Done, UnknownSet, WrongLength, CoefficientOutside, MaskOutside, ImproperList, DrawRejected, WordMissing}
-use Rattle.answers.specs.Outcomes.{is_done}
+use Rattle.answers.specs.Outcomes.{Outcome, Done, is_done}
+use Rattle.answers.specs.declared.Refusal.TheVariants.{UnknownSet, WrongLength, CoefficientOutside, MaskOutside, ImproperList, DrawRejected, WordMissing}
 use Rattle.vectors.specs.Places.{proper_list}
 use Rattle.limits.specs.LengthRule.{length_rule}
 use Rattle.keys.specs.Key.{in_range, proper_key}
@@ -67,7 +66,7 @@ module _ (c : Lent) (count : ℕ) (z1 z2 : List ℤ) where
       let z = shortened s (drawing c) (answered_of c) in
       let walk =
       walk_accepted outcome_of (walk_of (first_trial s (chosen_of c)) (second_trial (answered_of c) (chosen_of c)) c.words c.thresholds)
-      (λ n. given s old n z) (λ n. leaving old n DrawRejected) (leaving old (length c.words) WordMissing)
+      (λ n. given s old n z) (λ n. leaving old n (Err DrawRejected)) (leaving old (length c.words) (Err WordMissing))
       (λ n. refl) refl (ap (λ r. is_done (outcome_of r)) h) in
       let rule = unless_passed outcome_of (length_rule s z.first z.second) (leaving old walk.0) (leaving z walk.0 Done) refl walk.1 in
       let is : done ≡ leaving z walk.0 Done = sym h ∙ walk.2 ∙ rule.2 in
@@ -78,10 +77,10 @@ module _ (c : Lent) (count : ℕ) (z1 z2 : List ℤ) where
   given_for : (s : Set) → response_for s c ≡ done → Admitted s c × GivenOut s c z1 z2
   unfolding response_for
   given_for s h =
-      let one = must_passed outcome_of (all_sized c) (early c WrongLength) _ refl (ap (λ r. is_done (outcome_of r)) h) in
-      let two = must_passed outcome_of (in_range c.f c.g c.a) (early c CoefficientOutside) _ refl one.1 in
-      let three = must_passed outcome_of (are_masks c.y1 c.y2) (early c MaskOutside) _ refl two.1 in
-      let four = must_passed outcome_of (proper_list s c.list) (early c ImproperList) _ refl three.1 in
+      let one = must_passed outcome_of (all_sized c) (early c (Err WrongLength)) _ refl (ap (λ r. is_done (outcome_of r)) h) in
+      let two = must_passed outcome_of (in_range c.f c.g c.a) (early c (Err CoefficientOutside)) _ refl one.1 in
+      let three = must_passed outcome_of (are_masks c.y1 c.y2) (early c (Err MaskOutside)) _ refl two.1 in
+      let four = must_passed outcome_of (proper_list s c.list) (early c (Err ImproperList)) _ refl three.1 in
       let five = unless_passed outcome_of (proper_key s c.f c.g c.a) (early c) (drawn s (drawing c) (chosen_of c)) refl four.1 in
       let long = all_sized_lem c one.0 in (
         record {
@@ -100,12 +99,12 @@ module _ (c : Lent) (count : ℕ) (z1 z2 : List ℤ) where
         given_drawn s (sym five.2 ∙ sym four.2 ∙ sym three.2 ∙ sym two.2 ∙ sym one.2 ∙ h),
       )
 
-  given_unnumbered : (set : ℕ) → responding set c ≡ done → (s : Set) × (asked_of set ≡ Known s) × Admitted s c × GivenOut s c z1 z2
+  given_unnumbered : (set : ℕ) → responding set c ≡ done → (s : Set) × (asked_of set ≡ Some s) × Admitted s c × GivenOut s c z1 z2
   unfolding responding
   given_unnumbered set h =
-      let known = set_known outcome_of (asked_of set) (early c UnknownSet) (λ s. response_for s c) refl (ap (λ r. is_done (outcome_of r)) h) in
+      let known = set_known outcome_of (asked_of set) (early c (Err UnknownSet)) (λ s. response_for s c) refl (ap (λ r. is_done (outcome_of r)) h) in
       let both = given_for known.0 (sym known.3 ∙ h) in
       (known.0, known.1, both.0, both.1)
 
-  pub given_out : (set key back : ℕ) → response set key c ≡ responded Done count back z1 z2 → (s : Set) × (asked_of set ≡ Known s) × Admitted s c × GivenOut s c z1 z2
+  pub given_out : (set key back : ℕ) → response set key c ≡ responded Done count back z1 z2 → (s : Set) × (asked_of set ≡ Some s) × Admitted s c × GivenOut s c z1 z2
   given_out set key back h = given_unnumbered set (unnumbered_of set key c Done count back z1 z2 h).0

@@ -1,11 +1,9 @@
 -- 02, C-12: what the counts of f and g tell of a key, for every set alike. Each statement is proved in proofs/Counts.antt under its own name.
-use Rattle.std.specs.Prelude.{◌≡◌, ◌↔◌, true, List, ◌++◌, ℕ, ◌+◌, ◌*◌, ◌-◌, ◌≤◌, ℤ, pos, ◌+ℤ◌, ◌*ℤ◌, length, get_or, replicate}
+use Rattle.std.specs.Prelude.{◌≡◌, ◌↔◌, true, List, ◌++◌, ℕ, ◌+◌, ◌*◌, ◌-◌, ◌≤◌, ℤ, pos, ◌+ℤ◌, ◌*ℤ◌, length, get_or, replicate, Some}
 use Rattle.laws.specs.Lists.{every}
 use Rattle.sets.specs.declared.Set.{Set}
-use Rattle.sets.specs.declared.Asked.TheVariants.{Known}
 use Rattle.sets.specs.Numbers.{dimension, key_limit_of, ones_of, twos_of, asked_of}
-use Rattle.answers.specs.declared.Outcome.{Outcome}
-use Rattle.answers.specs.Outcomes.{number_of, filled}
+use Rattle.answers.specs.Outcomes.{Outcome, number_of, filled}
 use Rattle.vectors.specs.Pairs.{pair, squares_pair}
 use Rattle.keys.specs.Key.{is_residue, second, relation, counted, key_test}
 use Rattle.commitment.specs.Commitment.{commitment, Outputs, with_rests, commitment_with_rests}
@@ -29,7 +27,7 @@ abbrev pub KeyPasses : Type 0
 KeyPasses =
     (set : ℕ) (f g : List ℤ) (a : List ℕ)
     → number_of (key_test set f g a) ≡ 0
-    ↔ (s : Set) × (asked_of set ≡ Known s)
+    ↔ (s : Set) × (asked_of set ≡ Some s)
     × Counts s f × Counts s g
     × (length a ≡ dimension) × (every is_residue a ≡ true) × (relation a f (second g) ≡ true)
 

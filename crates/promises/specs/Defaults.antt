@@ -2,8 +2,7 @@
 use Rattle.std.specs.Prelude.{◌≡◌, List, ◌++◌, ℕ, ◌^◌, ◌<◌, ◌≤◌, ℤ, length, take, drop, get_or}
 use Rattle.sets.specs.declared.Set.TheVariants.{I, IV}
 use Rattle.sets.specs.Numbers.{dimension, list_limit, kappa_of}
-use Rattle.answers.specs.declared.Outcome.{Outcome}
-use Rattle.answers.specs.Outcomes.{number_of, Filled, filled}
+use Rattle.answers.specs.Outcomes.{Outcome, number_of, Filled, filled}
 use Rattle.answers.specs.Sizes.{kappa_asked}
 use Rattle.keys.specs.Key.{key_test}
 use Rattle.commitment.specs.Commitment.{committed, commitment, Outputs, commitment_with_rests}

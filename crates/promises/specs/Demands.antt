@@ -1,12 +1,9 @@
 -- Demands 1 and 3, over the definitions that the calls' contracts cite. Each statement is proved in proofs/ under its own name:
 -- `commitment_keeps : CommitmentKeeps`, and so on. An answer is spoken of by the paper's number of its outcome, `number_of`; 0 is "done" (`OnlyDone`).
-use Rattle.std.specs.Prelude.{◌≡◌, true, List, ℕ, ◌*◌, ◌^◌, ◌<◌, ◌≤◌, ℤ, length}
+use Rattle.std.specs.Prelude.{◌≡◌, true, List, ℕ, ◌*◌, ◌^◌, ◌<◌, ◌≤◌, ℤ, length, Some}
 use Rattle.sets.specs.declared.Set.{Set}
-use Rattle.sets.specs.declared.Asked.TheVariants.{Known}
 use Rattle.sets.specs.Numbers.{dimension, places, kappa_of, key_limit_of, asked_of}
-use Rattle.answers.specs.declared.Outcome.{Outcome}
-use Rattle.answers.specs.declared.Outcome.TheVariants.{Done}
-use Rattle.answers.specs.Outcomes.{number_of, Filled, filled}
+use Rattle.answers.specs.Outcomes.{Outcome, Done, number_of, Filled, filled}
 use Rattle.vectors.specs.Pairs.{pair, squares_pair}
 use Rattle.vectors.specs.Places.{proper_list}
 use Rattle.keys.specs.Key.{key_test}
@@ -105,7 +102,7 @@ Fills call vector = (o : Outcome) × (call ≡ filled o vector) × (number_of o 
 
 -- "any key that passes the key test, any masks within their limit, any proper challenge list, either sign bit, any thresholds and any random words"
 pub record Admissible (set : ℕ) (s : Set) (c : Lent) : Type 0 where
-  pub asked : asked_of set ≡ Known s
+  pub asked : asked_of set ≡ Some s
   pub key : number_of (key_test set c.f c.g c.a) ≡ 0
   pub masks : are_masks c.y1 c.y2 ≡ true
   pub list : proper_list s c.list ≡ true
@@ -123,7 +120,7 @@ pub record Buffered (c : Lent) : Type 0 where
 abbrev pub ResponseLength : Type 0
 ResponseLength =
     (set : ℕ) (s : Set) (c : Lent)
-    → asked_of set ≡ Known s
+    → asked_of set ≡ Some s
     → number_of (key_test set c.f c.g c.a) ≡ 0
     → proper_list s c.list ≡ true
     → squares_pair (choices (secret c) c.list) ≤ kappa_of s * squares_pair (secret c)
@@ -138,7 +135,7 @@ GivenOutIsAccepted =
     → response set key c ≡ responded o count back z1 z2
     → number_of o ≡ 0
     → length before ≡ dimension → length old ≡ dimension
-    → (s : Set) × (asked_of set ≡ Known s)
+    → (s : Set) × (asked_of set ≡ Some s)
     × Fills (commitment set c.a c.y1 c.y2 before) (committed s c.a c.y1 c.y2)
     × Fills (rebuild set c.a (claim z1 z2 c.list) old) (committed s c.a c.y1 c.y2)
 

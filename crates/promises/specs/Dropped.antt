@@ -1,11 +1,9 @@
 -- 02, C-24: how much the dropped digits cost, over whole numbers and for every set alike. Each statement is proved in proofs/Dropped.antt under its own name.
-use Rattle.std.specs.Prelude.{◌≡◌, List, ℕ, ◌+◌, ◌*◌, ◌-◌, ◌^◌, ◌<◌, ◌≤◌, ℤ, pos, neg_ℤ, nat_abs, ◌+ℤ◌, ◌-ℤ◌, ◌*ℤ◌, length, get_or}
+use Rattle.std.specs.Prelude.{◌≡◌, List, ℕ, ◌+◌, ◌*◌, ◌-◌, ◌^◌, ◌<◌, ◌≤◌, ℤ, pos, neg_ℤ, nat_abs, ◌+ℤ◌, ◌-ℤ◌, ◌*ℤ◌, length, get_or, Some}
 use Rattle.laws.specs.Integers.{residue}
 use Rattle.sets.specs.declared.Set.{Set}
-use Rattle.sets.specs.declared.Asked.TheVariants.{Known}
 use Rattle.sets.specs.Numbers.{dimension, modulus, twice_modulus, d_of, p_of, asked_of}
-use Rattle.answers.specs.declared.Outcome.{Outcome}
-use Rattle.answers.specs.Outcomes.{number_of}
+use Rattle.answers.specs.Outcomes.{Outcome, number_of}
 use Rattle.rounding.specs.Rounding.{rest, dagger}
 use Rattle.vectors.specs.Pairs.{pair}
 use Rattle.choices.specs.Choices.{choices}
@@ -56,7 +54,7 @@ DroppedGivenOut =
     (set key : ℕ) (c : Lent) (o : Outcome) (count back : ℕ) (z1 z2† : List ℤ)
     → response set key c ≡ responded o count back z1 z2†
     → number_of o ≡ 0
-    → (s : Set) × (asked_of set ≡ Known s)
+    → (s : Set) × (asked_of set ≡ Some s)
     × (length z2† ≡ dimension) × (length (z2_of c) ≡ dimension)
     × ((i : ℕ)
     → i < dimension

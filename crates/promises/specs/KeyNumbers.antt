@@ -1,8 +1,7 @@
 -- 02, C-13: which key signed a sheet. Each statement is proved in proofs/KeyNumbers.antt under its own name. The round trips that keep the key number are records'
 -- `RoundTrip` and `Conversions`; that the number read is the number lent to the response is agreement's `SaysYes`.
 use Rattle.std.specs.Prelude.{◌≡◌, List, ℕ, ◌+◌, ◌*◌, ◌/◌, ◌%◌, ℤ, length, take, drop, get_or}
-use Rattle.answers.specs.declared.Outcome.{Outcome}
-use Rattle.answers.specs.Outcomes.{number_of, key_with, filled}
+use Rattle.answers.specs.Outcomes.{Outcome, number_of, key_with, filled}
 use Rattle.signing.specs.Response.{Lent, responded, response}
 use Rattle.record_forms.specs.declared.Form.{Form}
 use Rattle.record_forms.specs.Headers.{key_in, header_in}

@@ -1,9 +1,8 @@
 -- 02, C-22: sets 5 to 8, with longer challenges. Each statement is proved in proofs/Longer.antt under its own name.
-use Rattle.std.specs.Prelude.{◌≡◌, List, [], ◌∷◌, map, ℕ, ◌+◌, ◌<◌, ◌≤◌, ℤ}
+use Rattle.std.specs.Prelude.{◌≡◌, List, [], ◌∷◌, map, ℕ, ◌+◌, ◌<◌, ◌≤◌, ℤ, Some, Err}
 use Rattle.sets.specs.declared.Set.{Set}
-use Rattle.sets.specs.declared.Asked.TheVariants.{Known}
 use Rattle.sets.specs.Numbers.{all, d_of, p_of, largest_of, bound_squared_of, key_limit_of, ones_of, twos_of, set_number_of, asked_of}
-use Rattle.answers.specs.declared.Outcome.TheVariants.{UnknownSet}
+use Rattle.answers.specs.declared.Refusal.TheVariants.{UnknownSet}
 use Rattle.answers.specs.Outcomes.{number_of}
 use Rattle.answers.specs.Sizes.{kappa_asked}
 use Rattle.limits.specs.LengthRule.{length_rule}
@@ -48,8 +47,8 @@ KeysOfFour = (s s' : Set) → Above s s' → SameKeys s s'
 pub record NoSet (n : ℕ) : Type 0 where
   pub key_tests : (f g : List ℤ) (a : List ℕ) → number_of (key_test n f g a) ≡ 1
   pub commitments : (a : List ℕ) (y1 y2 : List ℤ) (out : List ℕ) → Refuses 1 (commitment n a y1 y2 out) out
-  pub commitments_with_rests : (a : List ℕ) (y1 y2 : List ℤ) (old : Outputs) → commitment_with_rests n a y1 y2 old ≡ keeping old UnknownSet
-  pub responses : (key : ℕ) (c : Lent) → response n key c ≡ numbered key (early c UnknownSet)
+  pub commitments_with_rests : (a : List ℕ) (y1 y2 : List ℤ) (old : Outputs) → commitment_with_rests n a y1 y2 old ≡ keeping old (Err UnknownSet)
+  pub responses : (key : ℕ) (c : Lent) → response n key c ≡ numbered key (early c (Err UnknownSet))
   pub rebuilds : (a : List ℕ) (c : Claim) (out : List ℕ) → Refuses 1 (rebuild n a c out) out
   pub comparisons : (claimed hashed : List ℕ) → number_of (comparison n claimed hashed) ≡ 1
   pub writers : (form : Form) (key : ℕ) (z1 z2 : List ℤ) (l out : List ℕ) → Refuses 1 (writing_of form (offered n key z1 z2 l) out) out
@@ -58,4 +57,4 @@ pub record NoSet (n : ℕ) : Type 0 where
 
 -- "Refusals: 1 now above 8", and not below
 abbrev pub SetAbove : Type 0
-SetAbove = (n : ℕ) → (8 < n → NoSet n) × (n ≤ 8 → (s : Set) × (asked_of n ≡ Known s))
+SetAbove = (n : ℕ) → (8 < n → NoSet n) × (n ≤ 8 → (s : Set) × (asked_of n ≡ Some s))

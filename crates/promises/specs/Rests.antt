@@ -1,10 +1,8 @@
 -- 02, C-20, over the definitions of both commitments. Each statement is proved in proofs/Rests.antt under its own name.
-use Rattle.std.specs.Prelude.{◌≡◌, List, ℕ, ◌*◌, ◌%◌, ◌^◌, ◌<◌, ℤ, pos, ◌+ℤ◌, length, get_or}
+use Rattle.std.specs.Prelude.{◌≡◌, List, ℕ, ◌*◌, ◌%◌, ◌^◌, ◌<◌, ℤ, pos, ◌+ℤ◌, length, get_or, Some}
 use Rattle.sets.specs.declared.Set.{Set}
-use Rattle.sets.specs.declared.Asked.TheVariants.{Known}
 use Rattle.sets.specs.Numbers.{dimension, d_of, p_of, asked_of}
-use Rattle.answers.specs.declared.Outcome.{Outcome}
-use Rattle.answers.specs.Outcomes.{number_of, Filled, filled}
+use Rattle.answers.specs.Outcomes.{Outcome, number_of, Filled, filled}
 use Rattle.rounding.specs.Laws.{is_rest}
 use Rattle.commitment.specs.Commitment.{sums, commitment, Outputs, WithRests, with_rests, commitment_with_rests}
 
@@ -25,7 +23,7 @@ SameDigits =
 abbrev pub RestsOfSums : Type 0
 RestsOfSums =
     (set : ℕ) (s : Set) (a : List ℕ) (y1 y2 : List ℤ) (old : Outputs) (o : Outcome) (digits : List ℕ) (rests : List ℤ)
-    → asked_of set ≡ Known s
+    → asked_of set ≡ Some s
     → commitment_with_rests set a y1 y2 old ≡ with_rests o digits rests
     → number_of o ≡ 0
     → (length digits ≡ dimension) × (length rests ≡ dimension)

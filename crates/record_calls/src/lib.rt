@@ -2,296 +2,183 @@
 // what the output, the buffers or the section holds afterwards. The program records_run has the cases.
 #![tactic(auto)]
 
-ghost use Rattle.std.specs.Prelude.{◌≡◌, length};
+ghost use Rattle.std.specs.Prelude.{◌≡◌, take};
+ghost use Rattle.answers.specs.Outcomes.{filled};
+ghost use Rattle.records.specs.Writer.{offered, writing_of};
+
+mod shown;
 
 use answers::Outcome;
 use record_forms::Form;
-use sets::{Asked, Set};
-
-// Standard output's file descriptor.
-const STDOUT: i32 = 1;
+use sets::Set;
+pub use shown::{Part, Section};
+use shown::{Answer, Checksum};
+use std::{fmt, io};
 
 // ---- what is lent
 
 // More bytes than any record has.
 pub const ROOM: usize = 1800;
 
+// What an output's bytes are before a call.
+const OLD: u8 = 165;
+
 // The key number that a record is written with: its bytes are 1, 2, 3, 4.
-pub const KEY: u32 = 67305985;
+pub const KEY: u32 = 0x0403_0201;
 
-pub fn bytes_of(b: u8) -> [u8; ROOM]
-    ensures { length result ≡ 1800 }
-{
-    [b; ROOM]
+// What a record is written of.
+#[derive(Clone, Copy)]
+pub struct Signature<'a> {
+    pub set: u32,
+    pub key: u32,
+    pub z1: &'a [i16],
+    pub z2: &'a [i8],
+    pub list: &'a [u16],
 }
 
-// 600 times the same number, more than any vector has.
-pub fn wide_of(x: i16) -> [i16; 600]
-    ensures { length result ≡ 600 }
-{
-    [x; 600]
-}
-
-pub fn narrow_of(x: i8) -> [i8; 600]
-    ensures { length result ≡ 600 }
-{
-    [x; 600]
-}
-
-// 120 times the same place, more than any list has.
-fn places_of(x: u16) -> [u16; 120]
-    ensures { length result ≡ 120 }
-{
-    [x; 120]
-}
-
-// The first n places.
-pub fn first_places<'a>(list: &'a [u16], n: usize) -> &'a [u16] {
-    if n <= list.len() { &list[0..n] } else { list }
-}
-
-// The first n bytes.
-pub fn front<'a>(bytes: &'a [u8], n: usize) -> &'a [u8] {
-    if n <= bytes.len() {
-        &bytes[0..n]
-    } else {
-        bytes
+impl Signature<'_> {
+    pub fn write(self, form: Form, out: &mut [u8]) -> Outcome
+        ensures { filled result out.new ≡ writing_of form (offered self.entry.set self.entry.key self.entry.z1.now self.entry.z2.now self.entry.list.now) out.old }
+    {
+        records::write(form, self.set, self.key, self.z1, self.z2, self.list, out)
     }
+
+    fn lengths(self) -> Lengths {
+        Lengths {
+            z1: self.z1.len(),
+            z2: self.z2.len(),
+            list: self.list.len(),
+        }
+    }
+}
+
+// How many entries the vectors and the list have.
+#[derive(Clone, Copy)]
+pub struct Lengths {
+    pub z1: usize,
+    pub z2: usize,
+    pub list: usize,
+}
+
+impl Lengths {
+    // Those of the buffers that the reader takes.
+    pub const FULL: Lengths = Lengths {
+        z1: Set::DIMENSION,
+        z2: Set::DIMENSION,
+        list: Set::LIST_LIMIT,
+    };
+}
+
+impl fmt::Display for Lengths {
+    fn fmt<W: fmt::Write>(&self, f: &mut fmt::Formatter<W>) -> fmt::Result {
+        let Lengths { z1, z2, list } = *self;
+        write!(f, "z1 of {z1}, z2 dagger of {z2}, list of {list}")
+    }
+}
+
+// The first entries of a row, all where it has fewer. As `lending::first`: that crate stands on `bursztok`, this one on `records` alone.
+pub fn first<T>(row: &[T], count: usize) -> &[T]
+    ensures { result.now ≡ take count row.now }
+{
+    &row[..count.min(row.len())]
 }
 
 // Of the set that a number stands for, and 0 where there is none.
 pub fn kappa_of(set: u32) -> usize {
-    match Set::asked(set) {
-        Asked::Unknown => 0,
-        Asked::Known(s) => s.kappa(),
-    }
+    answers::sizes::kappa(set) as usize
 }
 
 pub fn total_of(form: Form, set: u32) -> usize {
-    match Set::asked(set) {
-        Asked::Unknown => 0,
-        Asked::Known(s) => form.total(s),
-    }
+    record_forms::sizes::record_bytes(form, set) as usize
 }
 
 // ---- the calls
 
-// Writes to the front of 1,800 bytes of 165, of which `room` are lent; then reads as many of them as the set's total.
-pub fn writing(
-    form: Form,
-    set: u32,
-    z1: &[i16],
-    z2: &[i8],
-    list: &[u16],
-    count: usize,
-    room: usize,
-) {
-    let mut space = bytes_of(165);
-    named(form, b"write: set ", b"write packed: set ");
-    number(b"", set as u64);
-    number(b", z1 of ", z1.len() as u64);
-    number(b", z2 dagger of ", z2.len() as u64);
-    number(b", list of ", count as u64);
-    number(b", output of ", room as u64);
-    show(write_room(
+// Writes to as many bytes as `room` says, at the front of 1,800; then reads as many of those as the set's total.
+pub fn writing(rt: &impl Print, form: Form, signature: Signature, room: usize) -> io::Result<()> {
+    let mut space = [OLD; ROOM];
+    let answer = Answer::from(signature.write(form, &mut space[..room.min(ROOM)]));
+    let (name, set, lengths) = (name_of(form), signature.set, signature.lengths());
+    print!(rt; "write{name}: set {set}, {lengths}, output of {room}: {answer}")?;
+    println!(rt; "; output sums to {}", Checksum::of(&space))?;
+    let rec = first(&space, total_of(form, set));
+    examining(rt, form, rec)?;
+    match form {
+        Form::Plain => Ok(()),
+        Form::Packed => back_and_forth(rt, set, rec),
+    }
+}
+
+// The reader, and of a plain record the calls that fetch its sections.
+pub fn examining(rt: &impl Print, form: Form, rec: &[u8]) -> io::Result<()> {
+    reading(rt, form, rec, Lengths::FULL)?;
+    match form {
+        Form::Plain => fetching(rt, rec),
+        Form::Packed => Ok(()),
+    }
+}
+
+// Reads into buffers that hold -1, -1 and 999.
+pub fn reading(rt: &impl Print, form: Form, rec: &[u8], lengths: Lengths) -> io::Result<()> {
+    let mut z1 = [-1; 600];
+    let mut z2 = [-1; 600];
+    let mut list = [999; 120];
+    let read = records::read(
         form,
-        set,
-        z1,
-        z2,
-        first_places(list, count),
-        room,
-        &mut space,
-    ));
-    checked(form, set, &space);
+        rec,
+        &mut z1[..lengths.z1.min(600)],
+        &mut z2[..lengths.z2.min(600)],
+        &mut list[..lengths.list.min(120)],
+    );
+    let answer = Answer::from(read.map(|_| ()));
+    let (set, key) = read.map_or((0, 0), |r| (r.set.number(), r.key));
+    print!(rt;
+        "  read{} {} bytes, {lengths}: {answer}",
+        name_of(form),
+        rec.len()
+    )?;
+    print!(rt; ", set {set}, key number {key}")?;
+    let sum = Checksum::of_buffers(&z1, &z2, &list);
+    println!(rt; "; buffers sum to {sum}")
 }
-
-fn named(form: Form, plain: &[u8], packed: &[u8]) {
-    match form {
-        Form::Plain => print(plain),
-        Form::Packed => print(packed),
-    }
-}
-
-fn checked(form: Form, set: u32, space: &[u8]) {
-    number(b"; output sums to ", sum(space));
-    print(b"\n");
-    let rec = front(space, total_of(form, set));
-    reading(form, rec, 512, 512, Set::LIST_LIMIT);
-    match form {
-        Form::Plain => sections(rec),
-        Form::Packed => back_and_forth(set, rec),
-    }
-}
-
-// To the first bytes of an output.
-fn write_room(
-    form: Form,
-    set: u32,
-    z1: &[i16],
-    z2: &[i8],
-    list: &[u16],
-    room: usize,
-    out: &mut [u8],
-) -> Outcome {
-    if room <= out.len() {
-        records::write(form, set, KEY, z1, z2, list, &mut out[0..room])
-    } else {
-        records::write(form, set, KEY, z1, z2, list, out)
-    }
-}
-
-// Reads into buffers of the lengths n1, n2, n3, which hold -1, -1 and 999.
-pub fn reading(form: Form, rec: &[u8], n1: usize, n2: usize, n3: usize) {
-    let mut z1 = wide_of(-1);
-    let mut z2 = narrow_of(-1);
-    let mut list = places_of(999);
-    named(form, b"  read ", b"  read packed ");
-    number(b"", rec.len() as u64);
-    number(b" bytes, z1 of ", n1 as u64);
-    number(b", z2 dagger of ", n2 as u64);
-    number(b", list of ", n3 as u64);
-    read_to(form, rec, &mut z1, n1, &mut z2, n2, &mut list, n3);
-    number(b"; buffers sum to ", buffer_sum(&z1, &z2, &list));
-    print(b"\n");
-}
-
-fn read_to(
-    form: Form,
-    rec: &[u8],
-    z1: &mut [i16],
-    n1: usize,
-    z2: &mut [i8],
-    n2: usize,
-    list: &mut [u16],
-    n3: usize,
-) {
-    if n1 <= z1.len() {
-        if n2 <= z2.len() {
-            if n3 <= list.len() {
-                let r = records::read(form, rec, &mut z1[0..n1], &mut z2[0..n2], &mut list[0..n3]);
-                let o = r.outcome;
-                show(o);
-                let set = r.set;
-                number(b", set ", set as u64);
-                number(b", key number ", r.key as u64);
-            }
-        }
-    }
-}
-
-// ---- the conversions
 
 // A packed record as a plain one, and that as a packed one again.
-fn back_and_forth(set: u32, rec: &[u8]) {
-    let mut plain = bytes_of(165);
-    converting(Form::Packed, Form::Plain, rec, ROOM, &mut plain);
-    let mut again = bytes_of(165);
-    let unpacked = front(&plain, total_of(Form::Plain, set));
-    converting(Form::Plain, Form::Packed, unpacked, ROOM, &mut again);
+fn back_and_forth(rt: &impl Print, set: u32, rec: &[u8]) -> io::Result<()> {
+    let plain = converting(rt, Form::Packed, Form::Plain, rec, ROOM)?;
+    let plain = first(&plain, total_of(Form::Plain, set));
+    converting(rt, Form::Plain, Form::Packed, plain, ROOM)?;
+    Ok(())
 }
 
-// To the first bytes of an output, of which `room` are lent.
-pub fn converting(from: Form, to: Form, rec: &[u8], room: usize, out: &mut [u8]) {
-    named(to, b"  unpack ", b"  pack ");
-    number(b"", rec.len() as u64);
-    number(b" bytes, output of ", room as u64);
-    show(convert_room(from, to, rec, room, out));
-    number(b"; output sums to ", sum(out));
-    print(b"\n");
+// To the front of 1,800 bytes, of which `room` are lent: what these hold then.
+pub fn converting(
+    rt: &impl Print,
+    from: Form,
+    to: Form,
+    rec: &[u8],
+    room: usize,
+) -> io::Result<[u8; ROOM]> {
+    let mut out = [OLD; ROOM];
+    let answer = Answer::from(records::convert(from, to, rec, &mut out[..room.min(ROOM)]));
+    let name = match to {
+        Form::Plain => "unpack",
+        Form::Packed => "pack",
+    };
+    print!(rt; "  {name} {} bytes, output of {room}: {answer}", rec.len())?;
+    println!(rt; "; output sums to {}", Checksum::of(&out))?;
+    Ok(out)
 }
 
-fn convert_room(from: Form, to: Form, rec: &[u8], room: usize, out: &mut [u8]) -> Outcome {
-    if room <= out.len() {
-        records::convert(from, to, rec, &mut out[0..room])
-    } else {
-        records::convert(from, to, rec, out)
-    }
+pub fn fetching(rt: &impl Print, rec: &[u8]) -> io::Result<()> {
+    let z1 = Section::fetched(rec, Part::Z1);
+    let z2 = Section::fetched(rec, Part::Z2);
+    let list = Section::fetched(rec, Part::List);
+    println!(rt; "  z1 section {z1}; z2 dagger section {z2}; list section {list}")
 }
 
-pub fn sections(rec: &[u8]) {
-    let mut n = 99;
-    let mut place = 99;
-    let z1 = records::z1_section(rec, &mut n, &mut place);
-    part(b"  z1 section", z1, n, place);
-    let z2 = records::z2_section(rec, &mut n, &mut place);
-    part(b"; z2 dagger section", z2, n, place);
-    let list = records::list_section(rec, &mut n, &mut place);
-    part(b"; list section", list, n, place);
-    print(b"\n");
-}
-
-pub fn part(text: &[u8], bytes: &[u8], n: u32, place: u32) {
-    print(text);
-    number(b" answers ", n as u64);
-    number(b" at ", place as u64);
-    number(b", bytes ", bytes.len() as u64);
-    number(b" sum to ", sum(bytes));
-}
-
-// ---- text and checksums
-
-pub fn print(text: &[u8]) {
-    io::write_all(STDOUT, text);
-}
-
-pub fn number(text: &[u8], n: u64) {
-    print(text);
-    io::print_decimal(STDOUT, n);
-}
-
-// A signed number, from its two's complement.
-pub fn signed16(text: &[u8], x: i16) {
-    let bits = byte_codes::bits16(x) as u64;
-    if bits < 32768 {
-        number(text, bits);
-    } else {
-        print(text);
-        number(b"-", 65536 - bits);
-    }
-}
-
-pub fn signed8(text: &[u8], x: i8) {
-    let bits = byte_codes::bits8(x) as u64;
-    if bits < 128 {
-        number(text, bits);
-    } else {
-        print(text);
-        number(b"-", 256 - bits);
-    }
-}
-
-fn show(o: Outcome) {
-    number(b": answers ", o.number() as u64);
-    number(b" at ", o.place() as u64);
-}
-
-fn sum(bytes: &[u8]) -> u64 {
-    let mut s: u64 = 7;
-    let mut i = 0;
-    while i < bytes.len() {
-        s = (s * 31 + (bytes[i] as u64)) % 1000003;
-        i += 1;
-    }
-    s
-}
-
-// Of the reader's three buffers together.
-fn buffer_sum(z1: &[i16], z2: &[i8], list: &[u16]) -> u64 {
-    let mut bytes = [0u8; 2040];
-    pack(z1, z2, list, &mut bytes);
-    sum(&bytes)
-}
-
-fn pack(z1: &[i16], z2: &[i8], list: &[u16], out: &mut [u8]) {
-    if out.len() == 2040 {
-        if z1.len() == 600 {
-            if z2.len() == 600 {
-                if list.len() == 120 {
-                    byte_codes::pack_wide(z1, &mut out[0..1200]);
-                    byte_codes::pack_narrow(z2, &mut out[1200..1800]);
-                    byte_codes::pack_places(list, &mut out[1800..2040]);
-                }
-            }
-        }
+fn name_of(form: Form) -> &'static str {
+    match form {
+        Form::Plain => "",
+        Form::Packed => " packed",
     }
 }

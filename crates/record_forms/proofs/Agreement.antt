@@ -1,13 +1,9 @@
 -- Byte strings that agree from one place up to another. Assumes nothing.
-use mathlib.Core.Path.{◌≡◌, sym, ap, ap₂, ◌∙◌}
-use mathlib.Core.Bool.{true, false}
-use mathlib.Core.List.{List, ◌∷◌, ◌++◌}
-use Prim.Native.Nat.{ℕ, suc, ◌+◌, ◌-◌, ◌<◌, ◌≤◌}
-use native.Mathlib.Numerals.{add-one}
-use native.Mathlib.Omega.{arith}
-use borrow.Author.Tests.{eq-eqb, ne_eqb}
-use lib.ListN.{length, take, get_or}
-use lib.Seq.{drop-cons, take-add}
+use Rattle.std.proofs.Common.{◌≡◌, refl, sym, ap, ap₂, ◌∙◌, Bool, true, false, not, ◌&&◌, List, [], ◌∷◌, ◌++◌, ℕ, ◌+◌, ◌-◌, ◌≤◌, take, arith}
+use borrow.Author.Tests.{not-true, not-false}
+use lib.Dec.{eqb}
+use lib.Pointwise.{pointwise}
+use lib.Seq.{take-add}
 use Rattle.laws.specs.Lists.{same}
 use Rattle.laws.proofs.Loops.{same_is}
 use Rattle.record_forms.specs.Headers.{part, agree}
@@ -23,23 +19,17 @@ take_further from to l h = ap (λ (n : ℕ). take n l) (sum from to h) ∙ take-
 pub agree_further : (from to : ℕ) (a b : List ℕ) → from ≤ to → take from a ≡ take from b → agree from to a b ≡ true → take to a ≡ take to b
 agree_further from to a b h front field = take_further from to a h ∙ ap₂ ◌++◌ front (same_is _ _ field) ∙ sym (take_further from to b h)
 
--- ---- in the code: one place after the other
-part_next : (i to : ℕ) (l : List ℕ) → i < to → to ≤ length l → part i to l ≡ get_or l i 0 ∷ part (i + 1) to l
-part_next i to l h k =
-    let inside : i < length l = omega arith in
-    let count : to - i ≡ suc (to - (i + 1)) = omega arith in
-    rw (count, add-one, drop-cons l i 0 inside)
+-- std's comparison of two byte strings
+pointwise_same : (xs ys : List ℕ) → pointwise eqb xs ys ≡ same xs ys
+unfolding same
+pointwise_same [] [] = refl
+pointwise_same [] (y ∷ ys) = refl
+pointwise_same (x ∷ xs) [] = refl
+pointwise_same (x ∷ xs) (y ∷ ys) = ap (λ (b : Bool). eqb x y && b) (pointwise_same xs ys)
 
-module _ (i to : ℕ) (a b : List ℕ) where
-  module _ (h : i < to) (k : to ≤ length a) (l : to ≤ length b) where
-    pub agree_stops : (get_or a i 0 ≡ get_or b i 0 → ⊥) → agree i to a b ≡ false
-    unfolding same
-    agree_stops e = rw (part_next i to a h k, part_next i to b h l, ne_eqb _ _ e)
+module _ (from to : ℕ) (a b : List ℕ) (r : Bool) (is : r ≡ not (pointwise eqb (part from to a) (part from to b))) where
+  pub fields_differ : r ≡ true → agree from to a b ≡ false
+  fields_differ e = sym (pointwise_same (part from to a) (part from to b)) ∙ not-true _ (sym is ∙ e)
 
-    pub agree_passes : get_or a i 0 ≡ get_or b i 0 → agree i to a b ≡ agree (i + 1) to a b
-    unfolding same
-    agree_passes e = ap₂ same (part_next i to a h k) (part_next i to b h l) ∙ rw (eq-eqb _ _ e)
-
-  pub agree_ends : to ≤ i → agree i to a b ≡ true
-  unfolding same
-  agree_ends h = let none : to - i ≡ 0 = omega arith in rw none
+  pub fields_agree : r ≡ false → agree from to a b ≡ true
+  fields_agree e = sym (pointwise_same (part from to a) (part from to b)) ∙ not-false _ (sym is ∙ e)

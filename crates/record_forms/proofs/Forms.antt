@@ -1,6 +1,6 @@
 -- What holds of the numbers of both forms: nothing outside this file goes by the form. Assumes nothing.
 use mathlib.Core.Path.{◌≡◌, refl, ap}
-use Prim.Native.Nat.{ℕ, ◌+◌, ◌*◌, ◌^◌, ◌<◌, ◌≤◌}
+use Prim.Native.Nat.{ℕ, ◌+◌, ◌*◌, ◌≤◌}
 use native.Mathlib.Nat.{mul-le-mul, mul-le-mul_left}
 use native.Mathlib.Omega.{arith}
 use lib.Dec.{lit≤}
@@ -61,6 +61,3 @@ module _ (form : Form) where
 
   pub record_limit : Largest (total_of form) (record_limit_of form)
   record_limit = (total_within, (list_limit_lem.1.0, ap (λ (n : ℕ). list_offset_of form + bytes_for (list_bits_of form * n)) list_limit_lem.1.1))
-
-  pub total_small : (s : Set) → total_of form s < 2 ^ 16
-  total_small s = omega (arith, list_early form, list_few s)

@@ -15,19 +15,16 @@ use Rattle.laws.specs.Refusals.{must}
 use Rattle.laws.proofs.Chain.{through}
 use Rattle.laws.proofs.Loops.{is_same}
 use Rattle.sets.specs.declared.Set.{Set}
-use Rattle.sets.specs.declared.Asked.{Asked}
-use Rattle.sets.specs.declared.Asked.TheVariants.{Known, Unknown}
+use Rattle.std.specs.Prelude.{Option, Some, None, Ok}
 use Rattle.sets.specs.Numbers.{kappa_of, set_number_of, named_of}
 use Rattle.sets.proofs.Alike.{number_small, named_back, named_is}
 use Rattle.answers.specs.Outcomes.{for_set}
-use Rattle.record_forms.specs.declared.Header.{Header}
-use Rattle.record_forms.specs.declared.Header.TheVariants.{States, Malformed}
 use Rattle.byte_codes.specs.Bytes.{bytes_of}
 use Rattle.bit_codes.specs.Bits.{number}
 use Rattle.record_forms.specs.declared.Form.{Form}
 use Rattle.record_forms.specs.declared.Form.TheVariants.{Plain, Packed}
 use Rattle.record_forms.specs.Forms.{letters_of, list_bits_of, key_offset, header_length, list_offset_of, total_of}
-use Rattle.record_forms.specs.Headers.{fields_of, part, agree, is_spare_clear, spare_bits, set_fields, fields_after, header_in}
+use Rattle.record_forms.specs.Headers.{Header, malformed, fields_of, part, agree, is_spare_clear, spare_bits, set_fields, fields_after, header_in}
 use Rattle.record_forms.proofs.Forms.{z2_after, list_after}
 use Rattle.record_forms.proofs.Agreement.{agree_further}
 
@@ -37,10 +34,10 @@ pub record Stated (form : Form) (s : Set) (rec : List ℕ) : Type 0 where
   pub spare : number 8 (part (list_offset_of form) (total_of form s) rec) < 2 ^ (list_bits_of form * kappa_of s)
 
 -- ---- a chain that states a set passed each test
-passed : {s : Set} (place : ℕ) (next : Header) (test : Bool) → must test (Malformed place) next ≡ States s → (test ≡ true) × (next ≡ States s)
-passed {s} place next test = through test (Malformed place) next (States s) (λ t e. never e)
+passed : {s : Set} (place : ℕ) (next : Header) (test : Bool) → must test (malformed place) next ≡ Ok s → (test ≡ true) × (next ≡ Ok s)
+passed {s} place next test = through test (malformed place) next (Ok s) (λ t e. never e)
   where
-    never : Malformed place ≡ States s → ⊥
+    never : malformed place ≡ Ok s → ⊥
     never h = let z : ◌≡◌ {A = ℕ} 0 1 = cc in omega arith
 
 -- ---- there
@@ -77,19 +74,19 @@ whole form s = take_all key_offset (fields_of form s) (le_of_eq (fields_long for
 module _ {s : Set} (form : Form) (rec : List ℕ) where
   -- one field more
   field : (from to : ℕ) (fields : List ℕ) (next : Header) → from ≤ to → take from rec ≡ take from fields
-      → must (agree from to rec fields) (Malformed from) next ≡ States s → (take to rec ≡ take to fields) × (next ≡ States s)
+      → must (agree from to rec fields) (malformed from) next ≡ Ok s → (take to rec ≡ take to fields) × (next ≡ Ok s)
   field from to fields next h front e =
       let (same, rest) = passed from next (agree from to rec fields) e in
       (agree_further from to rec fields h front same, rest)
 
-  spare_stated : (s' : Set) → length rec ≡ total_of form s' → take key_offset rec ≡ fields_of form s' → spare_bits form s' rec ≡ States s → Stated form s rec
+  spare_stated : (s' : Set) → length rec ≡ total_of form s' → take key_offset rec ≡ fields_of form s' → spare_bits form s' rec ≡ Ok s → Stated form s rec
   unfolding spare_bits
   spare_stated s' long front e =
       let (clear, last) = passed (total_of form s' - 1) _ (is_spare_clear form s' rec) e in
       let same : s' ≡ s = cc in
       rw (← same) (record { total = long; front = front; spare = ltb-true _ _ clear })
 
-  set_fields_stated : (s' : Set) → take 14 rec ≡ take 14 (fields_of form s') → set_fields form s' (fields_of form s') rec ≡ States s → Stated form s rec
+  set_fields_stated : (s' : Set) → take 14 rec ≡ take 14 (fields_of form s') → set_fields form s' (fields_of form s') rec ≡ Ok s → Stated form s rec
   unfolding set_fields
   set_fields_stated s' f14 e14 =
       let (f16, e16) = field 14 16 (fields_of form s') _ (lit≤ tt) f14 e14 in
@@ -98,7 +95,7 @@ module _ {s : Set} (form : Form) (rec : List ℕ) where
       let (long, e) = passed 18 _ (eqb (length rec) (total_of form s')) e18' in
       spare_stated s' (eqb-true _ _ long) (f20 ∙ whole form s') e
 
-  fields_stated : (s' : Set) → take 5 rec ≡ take 5 (fields_of form s') → fields_after form s' (fields_of form s') rec ≡ States s → Stated form s rec
+  fields_stated : (s' : Set) → take 5 rec ≡ take 5 (fields_of form s') → fields_after form s' (fields_of form s') rec ≡ Ok s → Stated form s rec
   unfolding fields_after
   fields_stated s' f5 e5 =
       let (f6, e6) = field 5 6 (fields_of form s') _ (lit≤ tt) f5 e5 in
@@ -108,19 +105,19 @@ module _ {s : Set} (form : Form) (rec : List ℕ) where
       let (f14, e14) = field 12 14 (fields_of form s') _ (lit≤ tt) f12 e12 in
       set_fields_stated s' f14 e14
 
-  named_stated : take 4 rec ≡ letters_of form → header_length ≤ length rec → (a : Asked) → named_of (get_or rec 4 0) ≡ a
-      → for_set a (Malformed 4) (λ s'. fields_after form s' (fields_of form s') rec) ≡ States s → Stated form s rec
-  named_stated f4 h Unknown n e = absurd (never e)
+  named_stated : take 4 rec ≡ letters_of form → header_length ≤ length rec → (a : Option Set) → named_of (get_or rec 4 0) ≡ a
+      → for_set a (malformed 4) (λ s'. fields_after form s' (fields_of form s') rec) ≡ Ok s → Stated form s rec
+  named_stated f4 h None n e = absurd (never e)
     where
-      never : Malformed 4 ≡ States s → ⊥
+      never : malformed 4 ≡ Ok s → ⊥
       never e = let z : ◌≡◌ {A = ℕ} 0 1 = cc in omega arith
-  named_stated f4 h (Known s') n e =
+  named_stated f4 h (Some s') n e =
       let inside : 4 < length rec = omega arith in
       let f5 : take 5 rec ≡ take 5 (fields_of form s') =
       take-suc rec 4 0 inside ∙ ap₂ (λ (l : List ℕ) (x : ℕ). l ++ (x ∷ [])) f4 (named_is s' _ n) ∙ sym (opens_further form s') in
       fields_stated s' f5 e
 
-  pub stated : header_in form rec ≡ States s → Stated form s rec
+  pub stated : header_in form rec ≡ Ok s → Stated form s rec
   unfolding header_in
   stated e =
       let (long, e0) = passed (length rec) _ (leb header_length (length rec)) e in
@@ -148,11 +145,11 @@ module _ {form : Form} {s : Set} {rec : List ℕ} (so : Stated form s rec) where
   letters_there =
       ap₂ same (sym (take-take 4 key_offset rec (lit≤ tt)) ∙ ap (take 4) so.front ∙ opens form s) (letters_whole form) ∙ is_same (letters_of form)
 
-  named_there : named_of (get_or rec 4 0) ≡ Known s
+  named_there : named_of (get_or rec 4 0) ≡ Some s
   named_there =
       ap named_of (sym (get_or-take key_offset rec 4 0 (lit< tt)) ∙ ap (λ (l : List ℕ). get_or l 4 0) so.front ∙ number_at_four form s) ∙ named_back s
 
-  pub states_back : header_in form rec ≡ States s
+  pub states_back : header_in form rec ≡ Ok s
   unfolding header_in fields_after set_fields spare_bits
   states_back =
       let long : header_length ≤ length rec = omega (arith, so.total, z2_after form, list_after form) in

@@ -6,9 +6,9 @@ use lib.Dec.{eqb, leb}
 use Rattle.laws.specs.Refusals.{must}
 use Rattle.sets.specs.declared.Set.{Set}
 use Rattle.answers.proofs.Calls as Calls
-use Rattle.record_forms.specs.declared.Header.{Header}
-use Rattle.record_forms.specs.declared.Header.TheVariants.{States, Malformed}
-use Rattle.record_forms.specs.Headers.{opened}
+use Rattle.std.specs.Prelude.{Bool, true, false, Result, Ok, Err}
+use Rattle.record_forms.specs.declared.Malformed.{Malformed}
+use Rattle.record_forms.specs.Headers.{Header, opened}
 
 module _ {ℓ} {A : Type ℓ} where
   module _ (length asked : ℕ) (x refusal next : A) where
@@ -33,10 +33,20 @@ module _ {ℓ} {A : Type ℓ} where
     long_enough h k = rw (← is, le-leb wanted length h) k
 
   module _ (h read : Header) (x : A) (refusal : ℕ → A) (next : Set → A) (is : h ≡ read) where
-    pub malformed : (place : ℕ) → h ≡ Malformed place → x ≡ refusal place → x ≡ opened read refusal next
-    malformed place e k = rw (sym is ∙ e) k
+    pub malformed_header : (m : Malformed) → h ≡ Err m → x ≡ refusal m.place → x ≡ opened read refusal next
+    malformed_header m e k = rw (sym is ∙ e) k
 
-    pub states : (s : Set) → h ≡ States s → x ≡ next s → x ≡ opened read refusal next
+    pub states : (s : Set) → h ≡ Ok s → x ≡ next s → x ≡ opened read refusal next
     states s e k = rw (sym is ∙ e) k
 
-pub ruleset calls = (Calls.calls, wrong_length, right_length, other_length, that_length, too_short, long_enough, malformed, states)
+-- a test that answers a refusal, handed on by `?`
+module _ (x next : Header) (m : Malformed) where
+  pub field_stops : (r : Result (Unit {0}) Malformed) (test : Bool) (e : Malformed) → r ≡ must test (Err m) (Ok tt) → r ≡ Err e → x ≡ Err e → x ≡ must test (Err m) next
+  field_stops r true e is f k = cc
+  field_stops r false e is f k = cc
+
+  pub field_passes : (r : Result (Unit {0}) Malformed) (test : Bool) (u : Unit {0}) → r ≡ must test (Err m) (Ok tt) → r ≡ Ok u → x ≡ next → x ≡ must test (Err m) next
+  field_passes r true u is f k = k
+  field_passes r false u is f k = cc
+
+pub ruleset calls = (Calls.calls, wrong_length, right_length, other_length, that_length, too_short, long_enough, malformed_header, states, field_stops, field_passes)

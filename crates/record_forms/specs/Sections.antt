@@ -1,8 +1,7 @@
 -- The section calls, of the plain form: refusal 13 only (01, "The record").
-use Rattle.std.specs.Prelude.{List, ℕ, ◌+◌, length}
-use Rattle.answers.specs.declared.Outcome.{Outcome}
-use Rattle.answers.specs.declared.Outcome.TheVariants.{Done, HeaderMalformed}
-use Rattle.answers.specs.Outcomes.{number_of, place_of}
+use Rattle.std.specs.Prelude.{List, ℕ, ◌+◌, length, Err}
+use Rattle.answers.specs.Outcomes.{Outcome, Done, number_of, place_of}
+use Rattle.answers.specs.declared.Refusal.TheVariants.{HeaderMalformed}
 use Rattle.record_forms.specs.declared.Form.TheVariants.{Plain}
 use Rattle.record_forms.specs.Forms.{z1_offset, z2_offset_of, list_offset_of}
 use Rattle.record_forms.specs.Headers.{part, header_in, opened}
@@ -18,7 +17,7 @@ part_of from to p rec o = fetched (p.0, from + p.1) (part from to rec) (number_o
 -- with 13 the empty part at its start
 unfoldable pub section_of : ℕ → ℕ → ℕ × ℕ → List ℕ → Fetched
 section_of from to p rec =
-    opened (header_in Plain rec) (λ place. part_of 0 0 p rec (HeaderMalformed place))
+    opened (header_in Plain rec) (λ place. part_of 0 0 p rec (Err (HeaderMalformed place)))
     (λ s. part_of from to p rec Done)
 
 abbrev pub z1_section : ℕ × ℕ → List ℕ → Fetched

@@ -4,14 +4,17 @@
 mod sections;
 pub mod sizes;
 
-ghost use Rattle.std.specs.Prelude.{◌≡◌, ◌*◌, ◌≤◌, length};
+ghost use Rattle.std.specs.Prelude.{◌≡◌, ◌*◌, ◌^◌, ◌<◌, ◌≤◌, length};
+ghost use Rattle.laws.specs.Refusals.{must};
 ghost use Rattle.sets.specs.Numbers.{kappa_of};
+ghost use Rattle.answers.specs.declared.Refusal.TheVariants.{HeaderMalformed};
 ghost use Rattle.record_forms.specs.Forms.{letters_of, list_bits_of, key_offset, header_length, z2_offset_of, list_offset_of, total_of};
 ghost use Rattle.record_forms.specs.Headers.{fields_of, header_of, key_in, agree, spare_bits, set_fields, fields_after, header_in};
 
-use byte_codes::put_number;
+use answers::Refusal;
+use byte_codes::Number;
 pub use sections::{list_section, z1_section, z2_section};
-use sets::{Asked, Set};
+use sets::Set;
 
 // The four letters that open every plain record, and every packed one.
 pub const LETTERS: [u8; 4] = *b"BLB1";
@@ -96,123 +99,106 @@ impl Form {
     }
 }
 
-// What a record's header says: its set, or the first byte of the first wrong field.
-#[derive(Clone, Copy)]
-pub enum Header {
-    States(Set),
-    Malformed(u32),
+// Why a header states no set: the first byte of the first wrong field, or the length of what is shorter than a header.
+#[derive(Clone, Copy, Debug, PartialEq, Eq)]
+pub struct Malformed {
+    pub place: u32,
 }
 
-pub fn header_in(form: Form, rec: &[u8]) -> Header
+impl From<Malformed> for Refusal {
+    ghost from_gives = { λ m refusal. refusal ≡ HeaderMalformed m.place };
+
+    fn from(malformed: Malformed) -> Refusal {
+        Refusal::HeaderMalformed(malformed.place)
+    }
+}
+
+// The set that a record's header states.
+#[tactic(auto, using(crate::proofs::Ways::calls), unfolding(crate::specs::Headers::header_in))]
+pub fn header_in(form: Form, rec: &[u8]) -> Result<Set, Malformed>
     ensures { result ≡ header_in form rec.now }
 {
     if rec.len() < HEADER_LENGTH {
-        return Header::Malformed(rec.len() as u32);
+        return Err(Malformed {
+            place: rec.len() as u32,
+        });
     }
-    if !opens(form, rec) {
-        return Header::Malformed(0);
-    }
-    match Set::named(rec[4] as u32) {
-        Asked::Unknown => Header::Malformed(4),
-        Asked::Known(s) => fields_after(form, s, &fields_of(form, s), rec),
-    }
+    agrees(0, 4, rec, &form.letters())?;
+    let Some(s) = Set::named(u32::from(rec[4])) else {
+        return Err(Malformed { place: 4 });
+    };
+    fields_after(form, s, &fields_of(form, s), rec)
 }
 
-// Whether a record opens with the form's letters.
-fn opens(form: Form, rec: &[u8]) -> bool
-    requires { header_length ≤ length rec.now }
-    ensures { result ≡ agree 0 4 rec.now (letters_of form) }
-{
-    agrees(0, 4, rec, &form.letters())
-}
-
-fn fields_after(form: Form, s: Set, fields: &[u8], rec: &[u8]) -> Header
+#[tactic(auto, using(crate::proofs::Ways::calls), unfolding(crate::specs::Headers::fields_after))]
+fn fields_after(form: Form, s: Set, fields: &[u8], rec: &[u8]) -> Result<Set, Malformed>
     requires { (length fields.now ≡ key_offset) × (header_length ≤ length rec.now) }
     ensures { result ≡ fields_after form s fields.now rec.now }
 {
-    if !agrees(5, 6, rec, fields) {
-        return Header::Malformed(5);
-    }
-    if !agrees(6, 8, rec, fields) {
-        return Header::Malformed(6);
-    }
-    if !agrees(8, 10, rec, fields) {
-        return Header::Malformed(8);
-    }
-    if !agrees(10, 12, rec, fields) {
-        return Header::Malformed(10);
-    }
-    if !agrees(12, 14, rec, fields) {
-        return Header::Malformed(12);
-    }
+    agrees(5, 6, rec, fields)?;
+    agrees(6, 8, rec, fields)?;
+    agrees(8, 10, rec, fields)?;
+    agrees(10, 12, rec, fields)?;
+    agrees(12, 14, rec, fields)?;
     set_fields(form, s, fields, rec)
 }
 
-fn set_fields(form: Form, s: Set, fields: &[u8], rec: &[u8]) -> Header
+#[tactic(auto, using(crate::proofs::Ways::calls), unfolding(crate::specs::Headers::set_fields))]
+fn set_fields(form: Form, s: Set, fields: &[u8], rec: &[u8]) -> Result<Set, Malformed>
     requires { (length fields.now ≡ key_offset) × (header_length ≤ length rec.now) }
     ensures { result ≡ set_fields form s fields.now rec.now }
 {
-    if !agrees(14, 16, rec, fields) {
-        return Header::Malformed(14);
-    }
-    if !agrees(16, 18, rec, fields) {
-        return Header::Malformed(16);
-    }
-    if !agrees(18, KEY_OFFSET, rec, fields) {
-        return Header::Malformed(18);
-    }
+    agrees(14, 16, rec, fields)?;
+    agrees(16, 18, rec, fields)?;
+    agrees(18, KEY_OFFSET, rec, fields)?;
     if rec.len() != form.total(s) {
-        return Header::Malformed(18);
+        return Err(Malformed { place: 18 });
     }
     spare_bits(form, s, rec)
 }
 
 // The spare bits of the list's last byte, which is the record's.
-fn spare_bits(form: Form, s: Set, rec: &[u8]) -> Header
+fn spare_bits(form: Form, s: Set, rec: &[u8]) -> Result<Set, Malformed>
     requires { length rec.now ≡ total_of form s }
     ensures { result ≡ spare_bits form s rec.now }
 {
-    let from = form.list_offset();
-    let to = rec.len();
-    if !bit_codes::spare_clear(&rec[from..to], form.bits_of_list(s)) {
-        return Header::Malformed((to - 1) as u32);
+    if !bit_codes::spare_clear(&rec[form.list_offset()..], form.bits_of_list(s)) {
+        return Err(Malformed {
+            place: (rec.len() - 1) as u32,
+        });
     }
-    Header::States(s)
+    Ok(s)
 }
 
-// Whether two byte strings agree from one place up to another.
-fn agrees(from: usize, to: usize, a: &[u8], b: &[u8]) -> bool
-    requires { (from ≤ to) × (to ≤ length a.now) × (to ≤ length b.now) }
-    ensures { result ≡ agree from to a.now b.now }
+// That two byte strings agree from one place up to another.
+fn agrees(from: usize, to: usize, a: &[u8], b: &[u8]) -> Result<(), Malformed>
+    requires { (from ≤ to) × (to ≤ length a.now) × (to ≤ length b.now) × (from < 2 ^ 32) }
+    ensures { result ≡ must (agree from to a.now b.now) (Err (record { place = from })) (Ok tt) }
 {
-    let mut i = from;
-    while i < to {
-        if a[i] != b[i] {
-            return false;
-        }
-        i += 1;
+    if a[from..to] != b[from..to] {
+        return Err(Malformed { place: from as u32 });
     }
-    true
+    Ok(())
 }
 
 // The header of a set's records up to the key number.
+// A cast keeps each number, which fits two bytes: std has no `From` there, and `try_from` would answer what cannot happen.
 fn fields_of(form: Form, s: Set) -> [u8; KEY_OFFSET]
     ensures { result ≡ fields_of form s }
 {
-    let letters = form.letters();
     let mut fields = [0u8; KEY_OFFSET];
-    fields[0] = letters[0];
-    fields[1] = letters[1];
-    fields[2] = letters[2];
-    fields[3] = letters[3];
+    fields[..4].copy_from_slice(&form.letters());
     fields[4] = s.number() as u8;
-    put_number(&mut fields, 6, Set::DIMENSION as u16);
-    put_number(&mut fields, 8, Z1_OFFSET as u16);
-    put_number(&mut fields, 10, Set::DIMENSION as u16);
-    put_number(&mut fields, 12, form.z2_offset() as u16);
-    put_number(&mut fields, 14, s.kappa() as u16);
-    put_number(&mut fields, 16, form.list_offset() as u16);
-    put_number(&mut fields, 18, form.total(s) as u16);
+    let numbers = [
+        Set::DIMENSION as u16,
+        Z1_OFFSET as u16,
+        Set::DIMENSION as u16,
+        form.z2_offset() as u16,
+        s.kappa() as u16,
+        form.list_offset() as u16,
+        form.total(s) as u16,
+    ];
+    byte_codes::pack(&numbers, &mut fields[6..]);
     fields
 }
 
@@ -221,8 +207,8 @@ pub fn put_header(form: Form, s: Set, key: u32, out: &mut [u8])
     requires { length out.old ≡ header_length }
     ensures { out.new ≡ header_of form s key }
 {
-    byte_codes::copy(&fields_of(form, s), &mut out[0..KEY_OFFSET]);
-    byte_codes::put_number32(&mut out[KEY_OFFSET..HEADER_LENGTH], key);
+    out[..KEY_OFFSET].copy_from_slice(&fields_of(form, s));
+    key.put(&mut out[KEY_OFFSET..HEADER_LENGTH]);
 }
 
 // The key number of a record.
@@ -230,5 +216,5 @@ pub fn key_in(rec: &[u8]) -> u32
     requires { header_length ≤ length rec.now }
     ensures { result ≡ key_in rec.now }
 {
-    byte_codes::number32_in(&rec[KEY_OFFSET..HEADER_LENGTH])
+    u32::read(&rec[KEY_OFFSET..HEADER_LENGTH])
 }

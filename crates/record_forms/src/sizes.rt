@@ -4,16 +4,13 @@ ghost use Rattle.record_forms.specs.Forms.{total_of};
 ghost use Rattle.record_forms.specs.Sizes.{record_bytes_asked};
 
 use crate::Form;
-use sets::{Asked, Set};
+use sets::Set;
 
 // Of the set that a number asks for; 0 where there is no such set.
 pub fn record_bytes(form: Form, set: u32) -> u32
     ensures { result ≡ record_bytes_asked form set }
 {
-    match Set::asked(set) {
-        Asked::Unknown => 0,
-        Asked::Known(s) => record_bytes_of(form, s),
-    }
+    Set::asked(set).map_or(0, |s| record_bytes_of(form, s))
 }
 
 fn record_bytes_of(form: Form, s: Set) -> u32

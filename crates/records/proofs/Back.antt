@@ -15,8 +15,9 @@ use lib.Seq.{take_at, take_all, drop_at, length-take-le}
 use Rattle.sets.specs.declared.Set.{Set}
 use Rattle.sets.specs.Numbers.{dimension, kappa_of, d_of, largest_of}
 use Rattle.sets.proofs.Alike.{largest_below_4096, largest_dagger}
-use Rattle.answers.specs.declared.Outcome.TheVariants.{Done, ImproperList}
-use Rattle.answers.specs.Outcomes.{is_done}
+use Rattle.std.specs.Prelude.{Err}
+use Rattle.answers.specs.declared.Refusal.TheVariants.{ImproperList}
+use Rattle.answers.specs.Outcomes.{Done, is_done}
 use Rattle.answers.proofs.Calls.{done_is, done_next}
 use Rattle.vectors.specs.Places.{proper_list}
 use Rattle.vectors.proofs.Rising.{proper_place}
@@ -46,7 +47,7 @@ anywhere (x ∷ l) bound h at (suc k) = anywhere l bound h (λ j i. at (suc j) (
 module _ (form : Form) (g : Signature) (kept : is_done (refusal_of g) ≡ true) where
   rule : length_rule g.set g.z1 g.z2 ≡ Done
   unfolding refusal_for
-  rule = done_is _ (done_next ImproperList (length_rule g.set g.z1 g.z2) refl (proper_list g.set g.list) kept)
+  rule = done_is _ (done_next (Err ImproperList) (length_rule g.set g.z1 g.z2) refl (proper_list g.set g.list) kept)
 
   pub z1_small : (k : ℕ) → 2 * nat_abs (get_or g.z1 k (pos 0)) < 2 ^ z1_bits_of form
   z1_small k =

@@ -8,15 +8,15 @@ use lib.ListN.{length, get_or, length-map}
 use Rattle.sets.specs.Numbers.{dimension}
 use Rattle.byte_codes.specs.Bytes.{packed, complement}
 use Rattle.bit_codes.specs.Bits.{bytes_for, packed_bits}
-use Rattle.bit_codes.proofs.Signs.{complements_below, whole_numbers}
+use Rattle.bit_codes.proofs.Signs.{codes_below, whole_numbers}
 use Rattle.record_forms.specs.declared.Form.{Form}
 
-module _ (width : ℕ) (z : List ℤ) (bits : List ℕ) (long : length z ≡ dimension) (e : bits ≡ map (complement width) z) where
+module _ {A : Type 0} (value : A → ℤ) (none : A) (width : ℕ) (z : List A) (bits : List ℕ) (long : length z ≡ dimension) (e : bits ≡ map (λ (x : A). complement width (value x)) z) where
   bits_long : length bits ≡ dimension
-  bits_long = ap length e ∙ length-map z (complement width) ∙ long
+  bits_long = ap length e ∙ length-map z (λ (x : A). complement width (value x)) ∙ long
 
-  pub below : ((k : ℕ) → 2 * nat_abs (get_or z k (pos 0)) < 2 ^ width) → (k : ℕ) → get_or bits k 0 < 2 ^ width
-  below small k = rw e (complements_below width dimension z small k)
+  pub below : ((k : ℕ) → 2 * nat_abs (value (get_or z k none)) < 2 ^ width) → (k : ℕ) → get_or bits k 0 < 2 ^ width
+  below small k = rw e (codes_below width dimension value none z small k)
 
   pub few : length bits ≤ 65536
   few = omega (arith, bits_long)
@@ -24,14 +24,11 @@ module _ (width : ℕ) (z : List ℤ) (bits : List ℕ) (long : length z ≡ dim
   pub room : (n : ℕ) → n ≡ bytes_for (width * dimension) → n ≡ bytes_for (width * length bits)
   room n h = rw bits_long h
 
-  pub packs : (out : List ℕ) → out ≡ packed_bits width (length bits) bits → out ≡ packed_bits width dimension (map (complement width) z)
+  pub packs : (out : List ℕ) → out ≡ packed_bits width (length bits) bits → out ≡ packed_bits width dimension (map (λ (x : A). complement width (value x)) z)
   packs out h = h ∙ rw (bits_long, e)
 
 -- ---- a section that has so many bits in each form (`bits`), of entries that fit them
 module _ (bits : Form → ℕ) (form told : Form) (z : List ℤ) (e : form ≡ told) where
-  pub told_room : (n : ℕ) → n ≡ bytes_for (bits form * dimension) → n ≡ bytes_for (bits told * dimension)
-  told_room n h = h ∙ ap (λ (f : Form). bytes_for (bits f * dimension)) e
-
   pub told_small : ((k : ℕ) → 2 * nat_abs (get_or z k (pos 0)) < 2 ^ bits form) → (k : ℕ) → 2 * nat_abs (get_or z k (pos 0)) < 2 ^ bits told
   told_small small k = rw e at (small k)
 

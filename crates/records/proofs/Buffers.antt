@@ -1,59 +1,50 @@
 -- What the calls ask of lengths, and what they leave in the buffers. Assumes nothing.
 use mathlib.Core.Path.{◌≡◌, refl, sym, ap, ◌∙◌}
-use mathlib.Core.Bool.{Bool, true, false, not}
+use mathlib.Core.Bool.{true}
 use mathlib.Core.List.{List, ◌++◌}
 use Prim.Native.Nat.{ℕ, ◌+◌, ◌-◌, ◌≤◌, ◌<◌}
 use native.Mathlib.Omega.{arith}
-use borrow.Author.Tests.{not-false}
 use lib.IntN.{ℤ}
 use lib.ListN.{length, take, drop, get_or}
 use lib.Seq.{take_at, length-take-le, get_or-drop}
 use Rattle.sets.specs.declared.Set.{Set}
 use Rattle.sets.specs.Numbers.{list_limit, kappa_of}
 use Rattle.sets.proofs.Alike.{kappa_within}
-use Rattle.answers.specs.declared.Outcome.{Outcome}
-use Rattle.answers.specs.declared.Outcome.TheVariants.{ImproperList}
-use Rattle.answers.specs.Outcomes.{is_done, filled}
-use Rattle.answers.proofs.Calls.{done_test}
+use Rattle.answers.specs.Outcomes.{Outcome, Done, is_done, filled}
+use Rattle.answers.specs.declared.Refusal.{Refusal}
+use Rattle.std.specs.Prelude.{Result, Ok, Err, IsErrAnd}
+use Rattle.answers.specs.declared.Refusal.TheVariants.{ImproperList}
+use Rattle.answers.proofs.Calls.{done_test, refused}
 use Rattle.vectors.specs.Places.{proper_list}
 use Rattle.vectors.proofs.Rising.{proper_count}
 use Rattle.limits.specs.LengthRule.{length_rule}
 use Rattle.byte_codes.proofs.Sections.{take_small}
 use Rattle.bit_codes.proofs.Digits.{length_unpacked}
 use Rattle.record_forms.specs.declared.Form.{Form}
-use Rattle.record_forms.specs.declared.Header.{Header}
-use Rattle.record_forms.specs.declared.Header.TheVariants.{States}
-use Rattle.record_forms.specs.Forms.{list_bits_of, header_length, list_offset_of, total_of}
-use Rattle.record_forms.proofs.Forms.{z2_after, list_after}
-use Rattle.record_forms.specs.Headers.{key_in, part, header_in}
+use Rattle.record_forms.specs.Forms.{list_bits_of, list_offset_of, total_of}
+use Rattle.record_forms.specs.Headers.{Header, key_in, part, header_in}
 use Rattle.record_forms.proofs.Stated.{stated}
 use Rattle.record_forms.proofs.Ways.{calls}
 use Rattle.records.specs.Signatures.{Signature, signature, signature_in, refusal_for, refusal_of}
 use Rattle.records.specs.Writer.{put_to, recorded_to}
-use Rattle.records.specs.Reader.{found, Buffers, keeping}
+use Rattle.records.specs.declared.Reading.{Reading}
+use Rattle.records.specs.Reader.{Found, found, outcome_of, set_told, key_told, Buffers, keeping}
 
 -- ---- lengths
 
 pub refusal_proper : (g : Signature) → is_done (refusal_of g) ≡ true → proper_list g.set g.list ≡ true
 unfolding refusal_for
-refusal_proper g e = done_test ImproperList (length_rule g.set g.z1 g.z2) refl (proper_list g.set g.list) e
+refusal_proper g e = done_test (Err ImproperList) (length_rule g.set g.z1 g.z2) refl (proper_list g.set g.list) e
 
 -- a list that is not refused has kappa entries
 pub proper_length : (g : Signature) → is_done (refusal_of g) ≡ true → length g.list ≡ kappa_of g.set
 proper_length g e = proper_count g.set g.list (refusal_proper g e)
 
--- what was not refused
-pub not_refused : (r : Bool) (o p : Outcome) → o ≡ p → r ≡ is_done o → not r ≡ false → is_done p ≡ true
-not_refused r o p e f t = ap is_done (sym e) ∙ sym f ∙ not-false r t
-
 pub room : (n total : ℕ) (form : Form) (s : Set) → total ≡ total_of form s → total ≤ n → total_of form s ≤ n
 room n total form s e h = omega arith
 
-pub stated_total : (h : Header) (form : Form) (rec : List ℕ) (s : Set) → h ≡ header_in form rec → h ≡ States s → length rec ≡ total_of form s
+pub stated_total : (h : Header) (form : Form) (rec : List ℕ) (s : Set) → h ≡ header_in form rec → h ≡ Ok s → length rec ≡ total_of form s
 stated_total h form rec s e f = (stated form rec (sym e ∙ f)).total
-
-pub header_within : (n : ℕ) (form : Form) (s : Set) → n ≡ total_of form s → header_length ≤ n
-header_within n form s e = omega (arith, z2_after form, list_after form)
 
 pub kappa_room : (n kappa : ℕ) (s : Set) → kappa ≡ kappa_of s → n ≡ list_limit → kappa ≤ n
 kappa_room n kappa s e f = omega (arith, kappa_within s)
@@ -79,6 +70,19 @@ signature_read form s kappa key rec list old z1 z2 e d g =
     let q = g.1 in
     rw (d, p, q, front)
 
+-- and it is what is lent of the vectors that it was read to
+pub lent_is : (form : Form) (s set : Set) (k key : ℕ) (rec list held old : List ℕ) (z1 z2 x y : List ℤ)
+    → (set ≡ s) × (key ≡ k) × (z1 ≡ x) × (z2 ≡ y) × (list ≡ take (kappa_of s) held) × (length list ≡ kappa_of s) → k ≡ key_in rec
+    → (x ≡ (signature_in form s rec).z1) × (y ≡ (signature_in form s rec).z2) × (held ≡ (signature_in form s rec).list ++ drop (kappa_of s) old)
+    → signature set key z1 z2 list ≡ signature_in form s rec
+lent_is form s set k key rec list held old z1 z2 x y e d u =
+    let a = e.0 in
+    let b = e.1 in
+    let p = e.2 in
+    let q = e.3 in
+    let l = e.4 in
+    rw (a, b, p, q, l) (signature_read form s (kappa_of s) k rec held old x y refl d u)
+
 -- a part of a record is bytes too
 pub part_small : (rec : List ℕ) → ((k : ℕ) → get_or rec k 0 < 256) → (from to k : ℕ) → get_or (part from to rec) k 0 < 256
 part_small rec small from to = take_small (to - from) (drop from rec) (λ k. rw (get_or-drop from rec k 0) (small (from + k)))
@@ -88,14 +92,23 @@ pub written_at : (o : Outcome) (out out' : List ℕ) → out ≡ out' → filled
 written_at o out out' e = cc
 
 -- the two ways to a record, by what the signature is refused for
-module _ (form : Form) (s : Set) (key : ℕ) (z1 z2 : List ℤ) (list out : List ℕ) (r : Bool) (o : Outcome) (g : o ≡ refusal_for s z1 z2 list) (h : r ≡ is_done o) where
-  pub refused_record : not r ≡ true → filled o out ≡ recorded_to form (signature s key z1 z2 list) out
+module _ (form : Form) (s : Set) (key : ℕ) (z1 z2 : List ℤ) (list out : List ℕ) (o : Outcome) (g : o ≡ refusal_for s z1 z2 list) where
+  pub refused_record : (e : Refusal) (p : Outcome) → o ≡ Err e → p ≡ Err e → filled p out ≡ recorded_to form (signature s key z1 z2 list) out
   unfolding recorded_to
-  refused_record t = search calls depth 9
+  refused_record e p t u = rw u (refused o (refusal_for s z1 z2 list) e (λ (q : Outcome). filled q out) (filled (Err e) out) _ g t refl)
 
-  pub put_record : not r ≡ false → (p : Outcome) (now : List ℕ) → filled p now ≡ put_to form (signature s key z1 z2 list) out → filled p now ≡ recorded_to form (signature s key z1 z2 list) out
+  pub put_record : o ≡ Done → (p : Outcome) (now : List ℕ) → filled p now ≡ put_to form (signature s key z1 z2 list) out → filled p now ≡ recorded_to form (signature s key z1 z2 list) out
   unfolding recorded_to
   put_record t p now w = search calls depth 9
 
-pub refused_at : (o o' : Outcome) (set key : ℕ) (b : Buffers) → (o ≡ o') × (set ≡ 0) × (key ≡ 0) → found o set key b ≡ keeping b o'
-refused_at o o' set key b e = let f = e.0 in let g = e.1 in let h = e.2 in cc
+-- what a reader answers, told by numbers
+abbrev pub told : Result Reading Refusal → Buffers → Found
+told r b = found (outcome_of r) (set_told r) (key_told r) b
+
+pub told_refusal : (r : Result Reading Refusal) (e : Refusal) (b : Buffers) → r ≡ Err e → told r b ≡ keeping b (Err e)
+told_refusal r e b h = ap (λ (k : Result Reading Refusal). told k b) h
+
+-- the refusal that a `?` hands on
+pub handed_on : {A : Type 0} (r : Result A Refusal) (e : Refusal) → IsErrAnd r (λ y. y ≡ e) → r ≡ Err e
+handed_on (Ok a) e h = absurd h
+handed_on (Err refusal) e h = ap Err h

@@ -12,16 +12,14 @@ use Rattle.laws.specs.Refusals.{must}
 use Rattle.laws.proofs.Entries.{every_anywhere}
 use Rattle.sets.specs.declared.Set.{Set}
 use Rattle.sets.specs.Numbers.{dimension, list_limit, kappa_of, set_number_of}
-use Rattle.answers.specs.declared.Outcome.{Outcome}
-use Rattle.answers.specs.declared.Outcome.TheVariants.{Done, HeaderMalformed}
-use Rattle.answers.specs.Outcomes.{number_of, is_done, Filled, filled}
+use Rattle.answers.specs.Outcomes.{Outcome, Done, number_of, is_done, Filled, filled}
+use Rattle.std.specs.Prelude.{Ok, Err}
+use Rattle.answers.specs.declared.Refusal.TheVariants.{HeaderMalformed}
 use Rattle.answers.proofs.Calls.{zero_is}
 use Rattle.byte_codes.specs.Bytes.{is_byte}
 use Rattle.record_forms.specs.declared.Form.{Form}
-use Rattle.record_forms.specs.declared.Header.{Header}
-use Rattle.record_forms.specs.declared.Header.TheVariants.{States, Malformed}
 use Rattle.record_forms.specs.Forms.{total_of}
-use Rattle.record_forms.specs.Headers.{key_in, header_in, opened}
+use Rattle.record_forms.specs.Headers.{Header, key_in, header_in, opened}
 use Rattle.record_forms.proofs.Stated.{stated, states_back}
 use Rattle.record_forms.proofs.KeyNumbers.{stated_key}
 use Rattle.records.specs.Signatures.{Signature, record_of, signature_in, refusal_of}
@@ -41,11 +39,11 @@ module _ (from to : Form) (rec out : List ℕ) (b : Buffers) (o : Outcome) (set 
     by_refusal false p n k y next e = let same : p ≡ o = cc in ap (λ (p : Outcome). filled p out) same
     by_refusal true p n k y next e = let same : Done ≡ o = cc in absurd (refused (ap number_of (sym same)))
 
-    by_header : (h : Header) → opened h (λ place. keeping b (HeaderMalformed place)) (λ s. reading_for from s rec b) ≡ found o set key x
-        → opened h (λ place. filled (HeaderMalformed place) out) (λ s. recorded_to to (signature_in from s rec) out) ≡ filled o out
+    by_header : (h : Header) → opened h (λ place. keeping b (Err (HeaderMalformed place))) (λ s. reading_for from s rec b) ≡ found o set key x
+        → opened h (λ place. filled (Err (HeaderMalformed place)) out) (λ s. recorded_to to (signature_in from s rec) out) ≡ filled o out
     unfolding reading_for recorded_to
-    by_header (Malformed place) e = let same : HeaderMalformed place ≡ o = cc in ap (λ (p : Outcome). filled p out) same
-    by_header (States s) e = by_refusal (is_done (refusal_of (signature_in from s rec))) (refusal_of (signature_in from s rec)) _ _ _ _ e
+    by_header (Err malformed) e = let same : Err (HeaderMalformed malformed.place) ≡ o = cc in ap (λ (p : Outcome). filled p out) same
+    by_header (Ok s) e = by_refusal (is_done (refusal_of (signature_in from s rec))) (refusal_of (signature_in from s rec)) _ _ _ _ e
 
     pub conversion_refuses : conversion_of from to rec out ≡ filled o out
     unfolding conversion_of reading_of
@@ -70,20 +68,20 @@ module _ (from to : Form) (g : Signature) (so : Sized g) (kept : is_done (refusa
 -- what a conversion passed that is done
 pub record Converted (from to : Form) (rec out out' : List ℕ) : Type 0 where
   pub s : Set
-  pub header : header_in from rec ≡ States s
+  pub header : header_in from rec ≡ Ok s
   pub recorded : Recorded to (signature_in from s rec) out out'
 
 pub converted : (from to : Form) (rec out out' : List ℕ) → conversion_of from to rec out ≡ filled Done out' → Converted from to rec out out'
 unfolding conversion_of
 converted from to rec out out' e = by_header (header_in from rec) refl e
   where
-    by_header : (h : Header) → header_in from rec ≡ h → opened h (λ place. filled (HeaderMalformed place) out) (λ s. recorded_to to (signature_in from s rec) out) ≡ filled Done out'
+    by_header : (h : Header) → header_in from rec ≡ h → opened h (λ place. filled (Err (HeaderMalformed place)) out) (λ s. recorded_to to (signature_in from s rec) out) ≡ filled Done out'
         → Converted from to rec out out'
-    by_header (Malformed place) h e = let same : HeaderMalformed place ≡ Done = cc in absurd (differs same)
+    by_header (Err malformed) h e = let same : Err (HeaderMalformed malformed.place) ≡ Done = cc in absurd (differs same)
       where
-        differs : HeaderMalformed place ≡ Done → ⊥
+        differs : Err (HeaderMalformed malformed.place) ≡ Done → ⊥
         differs k = let z : ◌≡◌ {A = ℕ} 13 0 = ap number_of k in omega arith
-    by_header (States s) h e = record { s = s; header = h; recorded = recorded to (signature_in from s rec) out out' e }
+    by_header (Ok s) h e = record { s = s; header = h; recorded = recorded to (signature_in from s rec) out out' e }
 
 -- What a conversion made is a record of the other form, the first bytes of its output, and the conversion back makes the record again that it came from, byte
 -- for byte, at the front of any output that is long enough.

@@ -3,10 +3,9 @@ use mathlib.Core.Path.{◌≡◌, ap}
 use mathlib.Core.List.{List}
 use Prim.Native.Nat.{ℕ}
 use contract.Lifetimes.{Lfts}
-use Rattle.answers.specs.declared.Outcome.{Outcome}
-use Rattle.answers.specs.Outcomes.{Filled, filled}
+use Rattle.answers.specs.Outcomes.{Outcome, Filled, filled}
 use Rattle.answers.proofs.Slots.{writer_out, reader_z1, reader_z2, reader_list, convert_out}
-use Rattle.records.specs.Reader.{Buffers, Found, found}
+use Rattle.records.specs.Reader.{Buffers, Found, found, outcome_of, set_told, key_told}
 use Rattle.records.proofs.write.Reads as write
 use Rattle.records.proofs.read.Reads as read
 use Rattle.records.proofs.convert.Reads as convert
@@ -28,7 +27,7 @@ write_determined κs a r r' s s' p q = one_filled _ p q
 
 -- the outcome, the set, the key number and the three buffers
 pub read_determined : (κs : Lfts 4) (a : _) (r r' : _) (s s' : _) → read.Post κs a r s → read.Post κs a r' s'
-    → (r.outcome ≡ r'.outcome) × (r.set ≡ r'.set) × (r.key ≡ r'.key) × ((reader_z1 s).now ≡ (reader_z1 s').now) × ((reader_z2 s).now ≡ (reader_z2 s').now) × ((reader_list s).now ≡ (reader_list s').now)
+    → (outcome_of r ≡ outcome_of r') × (set_told r ≡ set_told r') × (key_told r ≡ key_told r') × ((reader_z1 s).now ≡ (reader_z1 s').now) × ((reader_z2 s).now ≡ (reader_z2 s').now) × ((reader_list s).now ≡ (reader_list s').now)
 read_determined κs a r r' s s' p q = one_found _ p q
 
 -- the outcome and the output

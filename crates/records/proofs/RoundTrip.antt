@@ -13,23 +13,19 @@ use Rattle.laws.specs.Lists.{every}
 use Rattle.laws.proofs.Chain.{through, differ}
 use Rattle.laws.proofs.Entries.{every_anywhere}
 use Rattle.sets.specs.declared.Set.{Set}
-use Rattle.sets.specs.declared.Asked.{Asked}
-use Rattle.sets.specs.declared.Asked.TheVariants.{Known, Unknown}
+use Rattle.std.specs.Prelude.{Option, Some, None, Ok, Err}
 use Rattle.sets.specs.Numbers.{dimension, list_limit, kappa_of, set_number_of, asked_of}
 use Rattle.sets.proofs.Alike.{asked_back}
-use Rattle.answers.specs.declared.Outcome.{Outcome}
-use Rattle.answers.specs.declared.Outcome.TheVariants.{Done, UnknownSet, WrongLength, HeaderMalformed, OutputShort}
-use Rattle.answers.specs.Outcomes.{number_of, is_done, unless, for_set, filled}
+use Rattle.answers.specs.Outcomes.{Outcome, Done, number_of, is_done, unless, for_set, filled}
+use Rattle.answers.specs.declared.Refusal.TheVariants.{UnknownSet, WrongLength, HeaderMalformed, OutputShort}
 use Rattle.answers.proofs.Calls.{zero_is}
 use Rattle.byte_codes.specs.Bytes.{is_byte, from_complement}
 use Rattle.bit_codes.specs.Bits.{unpacked_bits}
 use Rattle.bit_codes.proofs.Digits.{length_unpacked}
 use Rattle.record_forms.specs.declared.Form.{Form}
 use Rattle.record_forms.specs.declared.Form.TheVariants.{Plain}
-use Rattle.record_forms.specs.declared.Header.{Header}
-use Rattle.record_forms.specs.declared.Header.TheVariants.{States, Malformed}
 use Rattle.record_forms.specs.Forms.{z1_bits_of, z2_bits_of, list_bits_of, z1_offset, z2_offset_of, list_offset_of, total_of}
-use Rattle.record_forms.specs.Headers.{key_in, part, header_in, opened}
+use Rattle.record_forms.specs.Headers.{Header, key_in, part, header_in, opened}
 use Rattle.record_forms.specs.Sections.{fetched, section_of, z1_section, z2_section, list_section}
 use Rattle.record_forms.proofs.Stated.{stated, states_back}
 use Rattle.records.specs.Signatures.{Signature, signature, z1_bytes, z2_bytes, list_bytes, record_of, signature_in, refusal_of}
@@ -43,7 +39,7 @@ use Rattle.records.proofs.Back.{z1_part, z2_part, list_part, record_stated, sign
 -- the buffers held.
 pub record ReadsBack (form : Form) (a : Offered) (out : List ℕ) : Type 0 where
   pub s : Set
-  pub asked : asked_of a.set ≡ Known s
+  pub asked : asked_of a.set ≡ Some s
   pub reads : (b : Buffers) → length b.z1 ≡ dimension → length b.z2 ≡ dimension → length b.list ≡ list_limit
       → (o : Outcome) × (number_of o ≡ 0)
       × (reading_of form (take (total_of form s) out) b ≡ found o (set_number_of s) a.key (buffers a.z1 a.z2 (a.list ++ drop (kappa_of s) b.list)))
@@ -51,7 +47,7 @@ pub record ReadsBack (form : Form) (a : Offered) (out : List ℕ) : Type 0 where
 -- And the section calls answer the sections of a plain one, wherever it lies.
 pub record SectionsBack (a : Offered) (out : List ℕ) : Type 0 where
   pub s : Set
-  pub asked : asked_of a.set ≡ Known s
+  pub asked : asked_of a.set ≡ Some s
   pub z1_section_lem : (p : ℕ × ℕ) → z1_section p (take (total_of Plain s) out) ≡ fetched (p.0, z1_offset + p.1) (z1_bytes Plain (signature s a.key a.z1 a.z2 a.list)) 0 0
   pub z2_section_lem : (p : ℕ × ℕ) → z2_section p (take (total_of Plain s) out) ≡ fetched (p.0, z2_offset_of Plain + p.1) (z2_bytes Plain (signature s a.key a.z1 a.z2 a.list)) 0 0
   pub list_section_lem : (p : ℕ × ℕ) → list_section p (take (total_of Plain s) out) ≡ fetched (p.0, list_offset_of Plain + p.1) (list_bytes Plain (signature s a.key a.z1 a.z2 a.list)) 0 0
@@ -81,7 +77,7 @@ pub recorded : (form : Form) (g : Signature) (out out' : List ℕ) → recorded_
 unfolding recorded_to put_to
 recorded form g out out' e =
     let (kept, e1) = through (is_done (refusal_of g)) (filled (refusal_of g) out) _ _ refused_write e in
-    let (room, e2) = through (leb (total_of form g.set) (length out)) (filled OutputShort out) _ _ (λ t. refused_write refl) e1 in
+    let (room, e2) = through (leb (total_of form g.set) (length out)) (filled (Err OutputShort) out) _ _ (λ t. refused_write refl) e1 in
     record { kept = kept; room = leb-true _ _ room; is = sym (output e2) }
   where
     output : {l l' : List ℕ} → filled Done l ≡ filled Done l' → l ≡ l'
@@ -99,8 +95,8 @@ record Wrote (form : Form) (g : Signature) (out out' : List ℕ) : Type 0 where
 wrote : (form : Form) (g : Signature) (out out' : List ℕ) → writing_for form g out ≡ filled Done out' → Wrote form g out out'
 unfolding writing_for
 wrote form g out out' e =
-    let (l1, e1) = through (eqb (length g.z1) dimension) (filled WrongLength out) _ _ (λ t. refused_write refl) e in
-    let (l2, e2) = through (eqb (length g.z2) dimension) (filled WrongLength out) _ _ (λ t. refused_write refl) e1 in
+    let (l1, e1) = through (eqb (length g.z1) dimension) (filled (Err WrongLength) out) _ _ (λ t. refused_write refl) e in
+    let (l2, e2) = through (eqb (length g.z2) dimension) (filled (Err WrongLength) out) _ _ (λ t. refused_write refl) e1 in
     let done = recorded form g out out' e2 in
     record { sized = record { z1_long = eqb-true _ _ l1; z2_long = eqb-true _ _ l2; list_long = proper_length g done.kept }; recorded = done }
 
@@ -132,7 +128,7 @@ module _ (form : Form) (a : Offered) (out out' : List ℕ) where
 
   pub record Written : Type 0 where
     pub s : Set
-    pub asked : asked_of a.set ≡ Known s
+    pub asked : asked_of a.set ≡ Some s
     pub sized : Sized (of s)
     pub kept : is_done (refusal_of (of s)) ≡ true
     pub front : take (total_of form s) out' ≡ record_of form (of s)
@@ -141,9 +137,9 @@ module _ (form : Form) (a : Offered) (out out' : List ℕ) where
   unfolding writing_of
   written o zero e = by_set (asked_of a.set) refl (e ∙ ap (λ (p : Outcome). filled p out') (zero_is o zero))
     where
-      by_set : (k : Asked) → asked_of a.set ≡ k → for_set k (filled UnknownSet out) (λ s. writing_for form (of s) out) ≡ filled Done out' → Written
-      by_set Unknown asked e = absurd (refused_write refl e)
-      by_set (Known s) asked e =
+      by_set : (k : Option Set) → asked_of a.set ≡ k → for_set k (filled (Err UnknownSet) out) (λ s. writing_for form (of s) out) ≡ filled Done out' → Written
+      by_set None asked e = absurd (refused_write refl e)
+      by_set (Some s) asked e =
           let w = wrote form (of s) out out' e in
           record {
             s = s;
@@ -185,7 +181,7 @@ refused_read {o} e f = let same : o ≡ Done = cc in not_done e same
 -- what a reader passed that is done
 pub record FoundWell (form : Form) (rec : List ℕ) (b : Buffers) (x : Found) : Type 0 where
   pub s : Set
-  pub header : header_in form rec ≡ States s
+  pub header : header_in form rec ≡ Ok s
   pub kept : is_done (refusal_of (signature_in form s rec)) ≡ true
   pub is : found Done (set_number_of s) (signature_in form s rec).key
       (buffers (signature_in form s rec).z1 (signature_in form s rec).z2 ((signature_in form s rec).list ++ drop (kappa_of s) b.list)) ≡ x
@@ -194,16 +190,16 @@ pub found_well : (form : Form) (rec : List ℕ) (b : Buffers) (set key : ℕ) (x
     → FoundWell form rec b (found Done set key x)
 unfolding reading_of reading_for
 found_well form rec b set key x e =
-    let refusal = keeping b WrongLength in
+    let refusal = keeping b (Err WrongLength) in
     let (l1, e1) = through (eqb (length b.z1) dimension) refusal _ _ (λ t. refused_read refl) e in
     let (l2, e2) = through (eqb (length b.z2) dimension) refusal _ _ (λ t. refused_read refl) e1 in
     let (l3, e3) = through (eqb (length b.list) list_limit) refusal _ _ (λ t. refused_read refl) e2 in
     by_header (header_in form rec) refl e3
   where
-    by_header : (h : Header) → header_in form rec ≡ h → opened h (λ place. keeping b (HeaderMalformed place)) (λ s. reading_for form s rec b) ≡ found Done set key x
+    by_header : (h : Header) → header_in form rec ≡ h → opened h (λ place. keeping b (Err (HeaderMalformed place))) (λ s. reading_for form s rec b) ≡ found Done set key x
         → FoundWell form rec b (found Done set key x)
-    by_header (Malformed place) h e = absurd (refused_read refl e)
-    by_header (States s) h e =
+    by_header (Err malformed) h e = absurd (refused_read refl e)
+    by_header (Ok s) h e =
         let (kept, e') = through (is_done (refusal_of (signature_in form s rec))) (keeping b (refusal_of (signature_in form s rec))) _ _ refused_read e in
         record { s = s; header = h; kept = kept; is = e' }
 
@@ -220,7 +216,7 @@ read_sized form s rec =
     whole_long f width count bytes = length-map (unpacked_bits width count bytes) f ∙ length_unpacked width count bytes
 
 -- a record of bytes is that of its signature
-pub record_is : (form : Form) (s : Set) (rec : List ℕ) → header_in form rec ≡ States s → every is_byte rec ≡ true → record_of form (signature_in form s rec) ≡ rec
+pub record_is : (form : Form) (s : Set) (rec : List ℕ) → header_in form rec ≡ Ok s → every is_byte rec ≡ true → record_of form (signature_in form s rec) ≡ rec
 record_is form s rec header bytes = record_back (stated form rec header) (λ k. ltb-true _ _ (every_anywhere is_byte rec k 0 bytes refl))
 
 -- the writer of either form goes from the signature in a record to its record in that form

@@ -1,14 +1,15 @@
 -- The readers: refusals 2, 13, 5, 10, 11 (01, "The record", "Numbers that come back"; 02, C-11, C-13).
-use Rattle.std.specs.Prelude.{List, ◌++◌, ℕ, eqb, ℤ, length, drop}
+use Rattle.std.specs.Prelude.{List, ◌++◌, ℕ, eqb, ℤ, length, drop, Result, Ok, Err}
 use Rattle.laws.specs.Refusals.{must}
 use Rattle.sets.specs.declared.Set.{Set}
 use Rattle.sets.specs.Numbers.{list_limit, kappa_of, set_number_of}
-use Rattle.answers.specs.declared.Outcome.{Outcome}
-use Rattle.answers.specs.declared.Outcome.TheVariants.{Done, WrongLength, HeaderMalformed}
-use Rattle.answers.specs.Outcomes.{unless}
+use Rattle.answers.specs.Outcomes.{Outcome, Done, unless}
+use Rattle.answers.specs.declared.Refusal.{Refusal}
+use Rattle.answers.specs.declared.Refusal.TheVariants.{WrongLength, HeaderMalformed}
 use Rattle.vectors.specs.Vectors.{sized}
 use Rattle.record_forms.specs.declared.Form.{Form}
 use Rattle.record_forms.specs.Headers.{header_in, opened}
+use Rattle.records.specs.declared.Reading.{Reading}
 use Rattle.records.specs.Signatures.{signature_in, refusal_of}
 
 -- the buffers of z1, z2 dagger and the list
@@ -24,6 +25,19 @@ buffers z1 z2 list = record { z1 = z1; z2 = z2; list = list }
 pub data Found : Type 0 where
   found : Outcome → ℕ → ℕ → Buffers → Found
 
+-- what a reader answers by its number and place, the set's number, and the key number: both 0 with a refusal
+abbrev pub outcome_of : Result Reading Refusal → Outcome
+outcome_of (Ok reading) = Done
+outcome_of (Err refusal) = Err refusal
+
+abbrev pub set_told : Result Reading Refusal → ℕ
+set_told (Ok reading) = set_number_of reading.set
+set_told (Err refusal) = 0
+
+abbrev pub key_told : Result Reading Refusal → ℕ
+key_told (Ok reading) = reading.key
+key_told (Err refusal) = 0
+
 -- a refusal: set and key number are 0, and the buffers as they came
 abbrev pub keeping : Buffers → Outcome → Found
 keeping b o = found o 0 0 b
@@ -38,8 +52,8 @@ reading_for form s rec b =
 -- the lengths of the buffers, then the header
 unfoldable pub reading_of : Form → List ℕ → Buffers → Found
 reading_of form rec b =
-    must (sized b.z1) (keeping b WrongLength)
-    (must (sized b.z2) (keeping b WrongLength)
-    (must (eqb (length b.list) list_limit) (keeping b WrongLength)
-    (opened (header_in form rec) (λ place. keeping b (HeaderMalformed place))
+    must (sized b.z1) (keeping b (Err WrongLength))
+    (must (sized b.z2) (keeping b (Err WrongLength))
+    (must (eqb (length b.list) list_limit) (keeping b (Err WrongLength))
+    (opened (header_in form rec) (λ place. keeping b (Err (HeaderMalformed place)))
     (λ s. reading_for form s rec b))))

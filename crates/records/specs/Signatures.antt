@@ -1,11 +1,11 @@
 -- A signature is its set, key number, z1, z2 dagger and list (01, "The record"; 02, C-13): its record in either form (02, C-11), and the signature that a record
 -- holds.
-use Rattle.std.specs.Prelude.{List, ◌++◌, map, ℕ, ℤ}
+use Rattle.std.specs.Prelude.{List, ◌++◌, map, ℕ, ℤ, Err}
 use Rattle.laws.specs.Refusals.{must}
 use Rattle.sets.specs.declared.Set.{Set}
 use Rattle.sets.specs.Numbers.{dimension, kappa_of}
-use Rattle.answers.specs.declared.Outcome.{Outcome}
-use Rattle.answers.specs.declared.Outcome.TheVariants.{ImproperList}
+use Rattle.answers.specs.Outcomes.{Outcome}
+use Rattle.answers.specs.declared.Refusal.TheVariants.{ImproperList}
 use Rattle.vectors.specs.Places.{proper_list}
 use Rattle.limits.specs.LengthRule.{length_rule}
 use Rattle.byte_codes.specs.Bytes.{complement, from_complement}
@@ -48,7 +48,7 @@ signature_in form s rec =
 
 -- what z1, z2 dagger and list of a set are refused for: 5, 10, 11
 unfoldable pub refusal_for : Set → List ℤ → List ℤ → List ℕ → Outcome
-refusal_for s z1 z2 list = must (proper_list s list) ImproperList (length_rule s z1 z2)
+refusal_for s z1 z2 list = must (proper_list s list) (Err ImproperList) (length_rule s z1 z2)
 
 -- and so a signature, whichever way it came: no key number is refused
 abbrev pub refusal_of : Signature → Outcome

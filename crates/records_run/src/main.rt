@@ -2,768 +2,556 @@
 // bits, buffers of the wrong length, the other form's record, key numbers. The crate record_calls makes the calls and prints a line for each.
 #![tactic(auto)]
 
-ghost use Rattle.std.specs.Prelude.{◌≡◌, length};
-ghost use Rattle.sets.specs.Numbers.{list_limit};
+ghost use Rattle.std.specs.Prelude.{◌<◌, ◌≤◌};
 
-use record_calls::ROOM;
+mod samples;
+
+use record_calls::{
+    Lengths, Part, ROOM, Section, Signature, converting, examining, first, reading, total_of,
+    writing,
+};
 use record_forms::{Form, LIST_OFFSET, Z1_OFFSET, Z2_OFFSET};
+use samples::{Entries, record_in, record_of, record_with};
 use sets::Set;
+use std::io;
 
-fn main() {
-    every_set();
-    header_bytes();
-    every_length();
-    limits();
-    lists();
-    buffers();
-    packed_records();
-    key_numbers();
+fn main(rt: HostRuntime) -> io::Result<()> {
+    every_set(&rt)?;
+    header_bytes(&rt)?;
+    every_length(&rt)?;
+    limits(&rt)?;
+    lists(&rt)?;
+    buffers(&rt)?;
+    packed_records(&rt)?;
+    key_numbers(&rt)
 }
 
-// ---- the cases
+// ---- the plain form
 
 // Each set, 0 and 9 included, with its own list and with those of sets 1 and 8: the record, and what it reads as.
-fn every_set() {
-    record_calls::print(b"---- sets 0 to 9, lists of three lengths\n");
-    each_set();
-}
-
-fn each_set() {
-    for set in 0..Set::LAST + 2 {
-        for_set(set);
+fn every_set(rt: &impl Print) -> io::Result<()> {
+    println!(rt; "---- sets 0 to 9, lists of three lengths")?;
+    for set in 0..=Set::LAST + 1 {
+        sample(rt, set, set, ROOM)?;
+        sample(rt, set, 1, ROOM)?;
+        sample(rt, set, 8, ROOM)?;
     }
-}
-
-fn for_set(set: u32) {
-    sample(set, set, ROOM);
-    sample(set, 1, ROOM);
-    sample(set, 8, ROOM);
+    Ok(())
 }
 
 // A record of set 1 with one byte more by 1, for each byte of the header; then 0, 3, 5 and 9 for the set.
-fn header_bytes() {
-    record_calls::print(b"---- a record of set 1, one byte of its header more by a number\n");
-    let mut rec = record_calls::bytes_of(0);
-    fill(Form::Plain, 1, &mut rec);
-    damage(&mut rec[0..1606]);
-}
-
-fn damage(rec: &mut [u8]) {
-    each_byte(rec);
-    more_by(rec, 4, 255);
-    more_by(rec, 4, 2);
-    more_by(rec, 4, 4);
-    more_by(rec, 4, 8);
-}
-
-fn each_byte(rec: &mut [u8]) {
-    let mut at = 0;
-    while at < 24 {
-        more_by(rec, at, 1);
-        at += 1;
+fn header_bytes(rt: &impl Print) -> io::Result<()> {
+    println!(rt; "---- a record of set 1, one byte of its header more by a number")?;
+    for at in 0..24 {
+        more_by(rt, Form::Plain, at, 1)?;
     }
+    for by in [255, 2, 4, 8] {
+        more_by(rt, Form::Plain, 4, by)?;
+    }
+    Ok(())
 }
 
 // A record of each set in a longer slice, of which the first 0, 1, 2, .. bytes are lent: a line where the answer changes.
-fn every_length() {
-    record_calls::print(b"---- the first bytes of a record: where the answer changes\n");
-    each_length_of_each();
-}
-
-fn each_length_of_each() {
-    for set in 1..Set::LAST + 1 {
-        each_length(set);
+fn every_length(rt: &impl Print) -> io::Result<()> {
+    println!(rt; "---- the first bytes of a record: where the answer changes")?;
+    for set in 1..=Set::LAST {
+        each_length(rt, &record_of(Form::Plain, set))?;
     }
+    Ok(())
 }
 
 // "largest" and one more, either way, and the sum.
-fn limits() {
-    record_calls::print(
-        b"---- one entry that is not 0, by the writer and in a record that was not written so\n",
-    );
-    entries();
-    entries_of_sets();
-    rounded();
-    rounded_of_sets();
-    record_calls::print(b"---- the sum of squares\n");
-    sums();
+fn limits(rt: &impl Print) -> io::Result<()> {
+    println!(rt;
+        "---- one entry that is not 0, by the writer and in a record that was not written so"
+    )?;
+    entries(rt)?;
+    rounded_entries(rt)?;
+    println!(rt; "---- the sum of squares")?;
+    for (set, entry) in [(1, 568), (1, 569), (4, 437), (4, 438)] {
+        let list_of = set;
+        equal_entries(
+            rt,
+            Alike {
+                set,
+                entry,
+                list_of,
+                ..USUAL
+            },
+        )?;
+    }
+    Ok(())
 }
 
-fn entries() {
-    one_entry(1, 0, 2100);
-    one_entry(1, 0, 2101);
-    one_entry(1, 511, -2100);
-    one_entry(1, 511, -2101);
-    one_entry(2, 7, 1563);
-    one_entry(2, 7, -1564);
+fn entries(rt: &impl Print) -> io::Result<()> {
+    one_entry(rt, 1, 0, 2100)?;
+    one_entry(rt, 1, 0, 2101)?;
+    one_entry(rt, 1, 511, -2100)?;
+    one_entry(rt, 1, 511, -2101)?;
+    one_entry(rt, 2, 7, 1563)?;
+    one_entry(rt, 2, 7, -1564)?;
+    one_entry(rt, 3, 8, -1760)?;
+    one_entry(rt, 3, 8, 1761)?;
+    one_entry(rt, 4, 9, 1613)?;
+    one_entry(rt, 4, 9, -1614)?;
+    one_entry(rt, 4, 9, i16::MAX)?;
+    one_entry(rt, 4, 9, i16::MIN)
 }
 
-fn entries_of_sets() {
-    one_entry(3, 8, -1760);
-    one_entry(3, 8, 1761);
-    one_entry(4, 9, 1613);
-    one_entry(4, 9, -1614);
-    one_entry(4, 9, 32767);
-    one_entry(4, 9, -32768);
-}
-
-fn rounded() {
-    one_rounded(1, 0, 2);
-    one_rounded(1, 0, 3);
-    one_rounded(2, 1, -1);
-    one_rounded(2, 1, -2);
-    one_rounded(3, 511, -3);
-}
-
-fn rounded_of_sets() {
-    one_rounded(3, 511, -4);
-    one_rounded(4, 511, 6);
-    one_rounded(4, 511, 7);
-    one_rounded(4, 510, 127);
-    one_rounded(4, 510, -128);
-}
-
-fn sums() {
-    alike(1, 568, 512, 512, 1, ROOM);
-    alike(1, 569, 512, 512, 1, ROOM);
-    alike(4, 437, 512, 512, 4, ROOM);
-    alike(4, 438, 512, 512, 4, ROOM);
+fn rounded_entries(rt: &impl Print) -> io::Result<()> {
+    one_rounded(rt, 1, 0, 2)?;
+    one_rounded(rt, 1, 0, 3)?;
+    one_rounded(rt, 2, 1, -1)?;
+    one_rounded(rt, 2, 1, -2)?;
+    one_rounded(rt, 3, 511, -3)?;
+    one_rounded(rt, 3, 511, -4)?;
+    one_rounded(rt, 4, 511, 6)?;
+    one_rounded(rt, 4, 511, 7)?;
+    one_rounded(rt, 4, 510, i8::MAX)?;
+    one_rounded(rt, 4, 510, i8::MIN)
 }
 
 // One place of the list of set 1 changed: at the bounds, repeated, falling, too large.
-fn lists() {
-    record_calls::print(b"---- one place of the list of set 1 changed\n");
-    one_place(0, 0);
-    one_place(0, 7);
-    one_place(1, 3);
-    one_place(1, 2);
-    one_place(1, 4);
-    one_place(22, 511);
-    one_place(22, 512);
-    one_place(22, 65535);
-    one_place(21, 91);
+fn lists(rt: &impl Print) -> io::Result<()> {
+    println!(rt; "---- one place of the list of set 1 changed")?;
+    one_place(rt, 0, 0)?;
+    one_place(rt, 0, 7)?;
+    one_place(rt, 1, 3)?;
+    one_place(rt, 1, 2)?;
+    one_place(rt, 1, 4)?;
+    one_place(rt, 22, 511)?;
+    one_place(rt, 22, 512)?;
+    one_place(rt, 22, u16::MAX)?;
+    one_place(rt, 21, 91)
 }
 
 // Vectors and outputs one entry short or long, and refusals whose conditions hold together.
-fn buffers() {
-    record_calls::print(b"---- vectors one entry short or long\n");
-    vectors_short_or_long();
-    record_calls::print(b"---- outputs short, just long enough and longer\n");
-    outputs();
-    record_calls::print(b"---- conditions of several refusals together\n");
-    first_refusals();
-    record_calls::print(b"---- the reader's buffers one entry short or long\n");
-    reader_buffers();
+fn buffers(rt: &impl Print) -> io::Result<()> {
+    println!(rt; "---- vectors one entry short or long")?;
+    equal_entries(rt, Alike { z1: 511, ..USUAL })?;
+    equal_entries(rt, Alike { z1: 513, ..USUAL })?;
+    equal_entries(rt, Alike { z2: 511, ..USUAL })?;
+    equal_entries(rt, Alike { z2: 513, ..USUAL })?;
+    println!(rt; "---- outputs short, just long enough and longer")?;
+    outputs(rt)?;
+    println!(rt; "---- conditions of several refusals together")?;
+    first_refusals(rt)?;
+    println!(rt; "---- the reader's buffers one entry short or long")?;
+    reader_buffers(rt)
 }
 
-fn vectors_short_or_long() {
-    alike(1, 7, 511, 512, 1, ROOM);
-    alike(1, 7, 513, 512, 1, ROOM);
-    alike(1, 7, 512, 511, 1, ROOM);
-    alike(1, 7, 512, 513, 1, ROOM);
-}
-
-fn outputs() {
-    sample(1, 1, 0);
-    sample(1, 1, 1605);
-    sample(1, 1, 1606);
-    sample(4, 4, 1637);
-    sample(4, 4, 1638);
-    sample(8, 8, 1785);
-    sample(8, 8, 1786);
+fn outputs(rt: &impl Print) -> io::Result<()> {
+    for (set, room) in [
+        (1, 0),
+        (1, 1605),
+        (1, 1606),
+        (4, 1637),
+        (4, 1638),
+        (8, 1785),
+        (8, 1786),
+    ] {
+        sample(rt, set, set, room)?;
+    }
+    Ok(())
 }
 
 // 1 before 2, 2 before 5, 5 before 10, 10 before 14: a list of set 3 is no list of set 1.
-fn first_refusals() {
-    alike(9, 7, 511, 512, 3, 0);
-    alike(1, 7, 511, 512, 3, 0);
-    alike(1, 2101, 512, 512, 3, 0);
-    alike(1, 2101, 512, 512, 1, 0);
+fn first_refusals(rt: &impl Print) -> io::Result<()> {
+    let output_short = Alike {
+        entry: 2101,
+        room: 0,
+        ..USUAL
+    };
+    let improper = Alike {
+        list_of: 3,
+        ..output_short
+    };
+    let short = Alike {
+        entry: 7,
+        z1: 511,
+        ..improper
+    };
+    equal_entries(rt, Alike { set: 9, ..short })?;
+    equal_entries(rt, short)?;
+    equal_entries(rt, improper)?;
+    equal_entries(rt, output_short)
 }
 
 // Each of the reader's buffers short and long, with a good record; and 2 before 13.
-fn reader_buffers() {
-    with_buffers(1606, 511, 512, Set::LIST_LIMIT);
-    with_buffers(1606, 513, 512, Set::LIST_LIMIT);
-    with_buffers(1606, 512, 511, Set::LIST_LIMIT);
-    with_buffers(1606, 512, 513, Set::LIST_LIMIT);
-    with_buffers(1606, 512, 512, 112);
-    with_buffers(1606, 512, 512, 114);
-    with_buffers(1606, 512, 512, 39);
-    with_buffers(23, 512, 512, 112);
-    with_buffers(23, 512, 512, Set::LIST_LIMIT);
+fn reader_buffers(rt: &impl Print) -> io::Result<()> {
+    let rec = record_of(Form::Plain, 2);
+    let whole = record_in(&rec, Form::Plain, 2);
+    reading(
+        rt,
+        Form::Plain,
+        whole,
+        Lengths {
+            z1: 511,
+            ..Lengths::FULL
+        },
+    )?;
+    reading(
+        rt,
+        Form::Plain,
+        whole,
+        Lengths {
+            z1: 513,
+            ..Lengths::FULL
+        },
+    )?;
+    reading(
+        rt,
+        Form::Plain,
+        whole,
+        Lengths {
+            z2: 511,
+            ..Lengths::FULL
+        },
+    )?;
+    reading(
+        rt,
+        Form::Plain,
+        whole,
+        Lengths {
+            z2: 513,
+            ..Lengths::FULL
+        },
+    )?;
+    reading(
+        rt,
+        Form::Plain,
+        whole,
+        Lengths {
+            list: 112,
+            ..Lengths::FULL
+        },
+    )?;
+    reading(
+        rt,
+        Form::Plain,
+        whole,
+        Lengths {
+            list: 114,
+            ..Lengths::FULL
+        },
+    )?;
+    reading(
+        rt,
+        Form::Plain,
+        whole,
+        Lengths {
+            list: 39,
+            ..Lengths::FULL
+        },
+    )?;
+    reading(
+        rt,
+        Form::Plain,
+        &rec[..23],
+        Lengths {
+            list: 112,
+            ..Lengths::FULL
+        },
+    )?;
+    reading(rt, Form::Plain, &rec[..23], Lengths::FULL)
 }
 
 // ---- the packed form
 
-fn packed_records() {
-    record_calls::print(
-        b"---- packed, sets 0 to 9: written, read, unpacked and packed again; then each bit of the last byte turned\n",
-    );
-    each_packed();
-    record_calls::print(b"---- a packed record of set 1, one byte of its header more by 1\n");
-    packed_header();
-    record_calls::print(
-        b"---- packed, entries that their bits hold and the limit does not, and lists\n",
-    );
-    packed_entries();
-    record_calls::print(b"---- a record of the other form\n");
-    other_form();
-    record_calls::print(
-        b"---- conversions: outputs short, just long enough and longer; conditions of several refusals together\n",
-    );
-    conversions();
-}
-
-fn each_packed() {
-    for set in 0..Set::LAST + 2 {
-        for_packed(set);
+fn packed_records(rt: &impl Print) -> io::Result<()> {
+    println!(rt;
+        "---- packed, sets 0 to 9: written, read, unpacked and packed again; then each bit of the last byte turned"
+    )?;
+    for set in 0..=Set::LAST + 1 {
+        writing(rt, Form::Packed, Entries::sample().signature(set), ROOM)?;
+        // The spare bits are the highest ones; the others are the last place's.
+        for bit in [128, 64, 32, 16, 8, 4, 2, 1] {
+            turned(rt, set, bit)?;
+        }
     }
-}
-
-fn for_packed(set: u32) {
-    record_calls::writing(
-        Form::Packed,
-        set,
-        &first_vector(),
-        &second_vector(),
-        &places(),
-        record_calls::kappa_of(set),
-        ROOM,
-    );
-    spare_bits(set);
-}
-
-// The spare bits are the highest ones; the others are the last place's.
-fn spare_bits(set: u32) {
-    high_bits(set);
-    turned(set, 8);
-    turned(set, 4);
-    turned(set, 2);
-    turned(set, 1);
-}
-
-fn high_bits(set: u32) {
-    turned(set, 128);
-    turned(set, 64);
-    turned(set, 32);
-    turned(set, 16);
-}
-
-// A packed record with one bit of its last byte turned.
-fn turned(set: u32, bit: u8) {
-    let mut rec = record_calls::bytes_of(0);
-    fill(Form::Packed, set, &mut rec);
-    let total = record_calls::total_of(Form::Packed, set);
-    turn_last(&mut rec, total, bit);
-    record_calls::number(b"last byte, bit ", bit as u64);
-    record_calls::print(b" turned\n");
-    record_calls::reading(
-        Form::Packed,
-        record_calls::front(&rec, total),
-        512,
-        512,
-        Set::LIST_LIMIT,
-    );
-}
-
-fn turn_last(rec: &mut [u8], total: usize, bit: u8) {
-    if 0 < total {
-        turn(rec, total - 1, bit);
+    println!(rt; "---- a packed record of set 1, one byte of its header more by 1")?;
+    for at in 0..24 {
+        more_by(rt, Form::Packed, at, 1)?;
     }
-}
-
-fn turn(rec: &mut [u8], at: usize, bit: u8) {
-    if at < rec.len() {
-        rec[at] = rec[at] ^ bit;
-    }
-}
-
-fn packed_header() {
-    let mut rec = record_calls::bytes_of(0);
-    fill(Form::Packed, 1, &mut rec);
-    each_packed_byte(&mut rec[0..1138]);
-}
-
-fn each_packed_byte(rec: &mut [u8]) {
-    let mut at = 0;
-    while at < 24 {
-        packed_more(rec, at);
-        at += 1;
-    }
-}
-
-fn packed_more(rec: &mut [u8], at: usize) {
-    if at < rec.len() {
-        record_calls::number(b"byte ", at as u64);
-        record_calls::print(b" more by 1\n");
-        let old = rec[at];
-        rec[at] = std::num::wrapping_add_u8(old, 1);
-        record_calls::reading(Form::Packed, rec, 512, 512, Set::LIST_LIMIT);
-        rec[at] = old;
-    }
+    println!(rt; "---- packed, entries that their bits hold and the limit does not, and lists")?;
+    packed_entries(rt)?;
+    println!(rt; "---- a record of the other form")?;
+    taken_for(rt, Form::Packed, Form::Plain)?;
+    taken_for(rt, Form::Plain, Form::Packed)?;
+    println!(rt;
+        "---- conversions: outputs short, just long enough and longer; conditions of several refusals together"
+    )?;
+    conversions(rt)
 }
 
 // Bytes 24 and 25 hold entry 0 of z1 and the lowest three bits of entry 1, which is -1500: 4. Byte 856 holds entries 0 and 1 of z2 dagger, bytes 1112 and 1113
 // entry 0 of the list and the lowest seven bits of entry 1, which is 7.
-fn packed_entries() {
-    packed_pair(b"z1 entry 0 is 4095\n", 24, 4095 + 8192 * 4);
-    packed_pair(b"z1 entry 0 is -4096\n", 24, 4096 + 8192 * 4);
-    packed_pair(b"z1 entry 0 is 2100\n", 24, 2100 + 8192 * 4);
-    packed_pair(b"z1 entry 0 is 2101\n", 24, 2101 + 8192 * 4);
-    packed_daggers();
-    packed_lists();
+fn packed_entries(rt: &impl Print) -> io::Result<()> {
+    packed_pair(rt, "z1 entry 0 is 4095", 24, 4095 + 8192 * 4)?;
+    packed_pair(rt, "z1 entry 0 is -4096", 24, 4096 + 8192 * 4)?;
+    packed_pair(rt, "z1 entry 0 is 2100", 24, 2100 + 8192 * 4)?;
+    packed_pair(rt, "z1 entry 0 is 2101", 24, 2101 + 8192 * 4)?;
+    packed_pair(rt, "z2 dagger entry 0 is 7", 856, 7)?;
+    packed_pair(rt, "z2 dagger entry 0 is -8", 856, 8)?;
+    packed_pair(rt, "z2 dagger entry 1 is 7", 856, 112)?;
+    packed_pair(rt, "z2 dagger entry 1 is -8", 856, 128)?;
+    packed_pair(rt, "z2 dagger entry 1 is -1", 856, 240)?;
+    packed_pair(rt, "list entry 0 is 7, as entry 1 is", 1112, 7 + 512 * 7)?;
+    packed_pair(rt, "list entry 0 is 511", 1112, 511 + 512 * 7)?;
+    packed_pair(rt, "list entry 0 is 0", 1112, 512 * 7)
 }
 
-fn packed_daggers() {
-    packed_pair(b"z2 dagger entry 0 is 7\n", 856, 7);
-    packed_pair(b"z2 dagger entry 0 is -8\n", 856, 8);
-    packed_pair(b"z2 dagger entry 1 is 7\n", 856, 112);
-    packed_pair(b"z2 dagger entry 1 is -8\n", 856, 128);
-    packed_pair(b"z2 dagger entry 1 is -1\n", 856, 240);
-}
-
-fn packed_lists() {
-    packed_pair(b"list entry 0 is 7, as entry 1 is\n", 1112, 7 + 512 * 7);
-    packed_pair(b"list entry 0 is 511\n", 1112, 511 + 512 * 7);
-    packed_pair(b"list entry 0 is 0\n", 1112, 512 * 7);
-}
-
-// The packed record of set 1, with two of its bytes changed; and unpacked.
-fn packed_pair(text: &[u8], at: usize, x: u16) {
-    record_calls::print(text);
-    let mut rec = record_calls::bytes_of(0);
-    fill(Form::Packed, 1, &mut rec);
-    change(&mut rec, at, x);
-    record_calls::reading(
-        Form::Packed,
-        record_calls::front(&rec, 1138),
-        512,
-        512,
-        Set::LIST_LIMIT,
-    );
-    let mut out = record_calls::bytes_of(165);
-    record_calls::converting(
-        Form::Packed,
-        Form::Plain,
-        record_calls::front(&rec, 1138),
-        ROOM,
-        &mut out,
-    );
-}
-
-fn other_form() {
-    let mut rec = record_calls::bytes_of(0);
-    let mut out = record_calls::bytes_of(165);
-    fill(Form::Packed, 2, &mut rec);
-    record_calls::reading(
-        Form::Plain,
-        record_calls::front(&rec, 1138),
-        512,
-        512,
-        Set::LIST_LIMIT,
-    );
-    record_calls::sections(record_calls::front(&rec, 1138));
-    record_calls::converting(
-        Form::Plain,
-        Form::Packed,
-        record_calls::front(&rec, 1138),
-        ROOM,
-        &mut out,
-    );
-    plain_as_packed();
-}
-
-fn plain_as_packed() {
-    let mut rec = record_calls::bytes_of(0);
-    let mut out = record_calls::bytes_of(165);
-    fill(Form::Plain, 2, &mut rec);
-    record_calls::reading(
-        Form::Packed,
-        record_calls::front(&rec, 1606),
-        512,
-        512,
-        Set::LIST_LIMIT,
-    );
-    record_calls::converting(
-        Form::Packed,
-        Form::Plain,
-        record_calls::front(&rec, 1606),
-        ROOM,
-        &mut out,
-    );
-}
-
-fn conversions() {
-    packing(1606, 0);
-    packing(1606, 1137);
-    packing(1606, 1138);
-    packing(1605, 0);
-    unpacking(1138, 0);
-    unpacking(1138, 1605);
-    unpacking(1138, 1606);
-    unpacking(1137, 0);
-}
-
-fn packing(lent: usize, room: usize) {
-    let mut rec = record_calls::bytes_of(0);
-    let mut out = record_calls::bytes_of(165);
-    fill(Form::Plain, 1, &mut rec);
-    record_calls::converting(
-        Form::Plain,
-        Form::Packed,
-        record_calls::front(&rec, lent),
-        room,
-        &mut out,
-    );
-    refused_packing(&mut rec, room);
-}
-
-// 5 before 10, 10 before 14: the second place as the first, then z1 past the limit.
-fn refused_packing(rec: &mut [u8], room: usize) {
-    let mut out = record_calls::bytes_of(165);
-    change(rec, Z1_OFFSET, 2101);
-    record_calls::converting(
-        Form::Plain,
-        Form::Packed,
-        record_calls::front(rec, 1606),
-        room,
-        &mut out,
-    );
-    change(rec, LIST_OFFSET, 7);
-    record_calls::converting(
-        Form::Plain,
-        Form::Packed,
-        record_calls::front(rec, 1606),
-        room,
-        &mut out,
-    );
-}
-
-fn unpacking(lent: usize, room: usize) {
-    let mut rec = record_calls::bytes_of(0);
-    let mut out = record_calls::bytes_of(165);
-    fill(Form::Packed, 1, &mut rec);
-    record_calls::converting(
-        Form::Packed,
-        Form::Plain,
-        record_calls::front(&rec, lent),
-        room,
-        &mut out,
-    );
-    refused_unpacking(&mut rec, room);
-}
-
-// 13 at the spare bit before 5, and that before 14.
-fn refused_unpacking(rec: &mut [u8], room: usize) {
-    let mut out = record_calls::bytes_of(165);
-    change(rec, 1112, 7 + 512 * 7);
-    record_calls::converting(
-        Form::Packed,
-        Form::Plain,
-        record_calls::front(rec, 1138),
-        room,
-        &mut out,
-    );
-    turn(rec, 1137, 128);
-    record_calls::converting(
-        Form::Packed,
-        Form::Plain,
-        record_calls::front(rec, 1138),
-        room,
-        &mut out,
-    );
+fn conversions(rt: &impl Print) -> io::Result<()> {
+    for (lent, room) in [(1606, 0), (1606, 1137), (1606, 1138), (1605, 0)] {
+        packing(rt, lent, room)?;
+    }
+    for (lent, room) in [(1138, 0), (1138, 1605), (1138, 1606), (1137, 0)] {
+        unpacking(rt, lent, room)?;
+    }
+    Ok(())
 }
 
 // ---- key numbers
 
 // Numbers that tell their bytes apart, in either form: what bytes 20 to 23 hold, what is read, and what a conversion keeps.
-fn key_numbers() {
-    record_calls::print(
-        b"---- records of set 1 with a key number, each read, converted to the other form and read again\n",
-    );
-    small_keys();
-    large_keys();
-}
-
-fn small_keys() {
-    keyed(0);
-    keyed(1);
-    keyed(255);
-    keyed(256);
-    keyed(65535);
-}
-
-fn large_keys() {
-    keyed(65536);
-    keyed(16777216);
-    keyed(67305985);
-    keyed(16909060);
-    keyed(2147483648);
-    keyed(4294967295);
-}
-
-fn keyed(key: u32) {
-    record_calls::number(b"key number ", key as u64);
-    record_calls::print(b"\n");
-    keyed_in(Form::Plain, Form::Packed, key);
-    keyed_in(Form::Packed, Form::Plain, key);
-}
-
-fn keyed_in(form: Form, other: Form, key: u32) {
-    let mut rec = record_calls::bytes_of(0);
-    let mut out = record_calls::bytes_of(165);
-    fill_keyed(form, 1, key, &mut rec);
-    let lent = record_calls::front(&rec, record_calls::total_of(form, 1));
-    key_bytes(lent);
-    record_calls::reading(form, lent, 512, 512, Set::LIST_LIMIT);
-    record_calls::converting(form, other, lent, ROOM, &mut out);
-    let converted = record_calls::front(&out, record_calls::total_of(other, 1));
-    key_bytes(converted);
-    record_calls::reading(other, converted, 512, 512, Set::LIST_LIMIT);
-}
-
-fn key_bytes(rec: &[u8]) {
-    if 24 <= rec.len() {
-        key_byte(b"  bytes 20 to 23 are ", rec[20]);
-        key_byte(b", ", rec[21]);
-        key_byte(b", ", rec[22]);
-        key_byte(b", ", rec[23]);
-        record_calls::print(b"\n");
+fn key_numbers(rt: &impl Print) -> io::Result<()> {
+    println!(rt;
+        "---- records of set 1 with a key number, each read, converted to the other form and read again"
+    )?;
+    for key in [
+        0, 1, 255, 256, 65535, 65536, 16777216, 67305985, 16909060, 2147483648, 4294967295,
+    ] {
+        println!(rt; "key number {key}")?;
+        keyed(rt, Form::Plain, Form::Packed, key)?;
+        keyed(rt, Form::Packed, Form::Plain, key)?;
     }
-}
-
-fn key_byte(text: &[u8], byte: u8) {
-    record_calls::number(text, byte as u64);
+    Ok(())
 }
 
 // ---- one case
 
-// Places 4 apart, for the longest list.
-fn places() -> [u16; Set::LIST_LIMIT]
-    ensures { length result ≡ list_limit }
-{
-    let mut list = [0u16; Set::LIST_LIMIT];
-    for i in 0..Set::LIST_LIMIT {
-        list[i] = 3 + 4 * (i as u16);
-    }
-    list
-}
-
-fn first_vector() -> [i16; 512]
-    ensures { length result ≡ 512 }
-{
-    let mut z1 = [7i16; 512];
-    z1[0] = 1500;
-    z1[1] = -1500;
-    z1[255] = 256;
-    z1[256] = -256;
-    z1[510] = -1;
-    z1[511] = 127;
-    z1
-}
-
-fn second_vector() -> [i8; 512]
-    ensures { length result ≡ 512 }
-{
-    let mut z2 = [0i8; 512];
-    z2[0] = 1;
-    z2[511] = -1;
-    z2
-}
-
-// The record of the two vectors and of the set's list.
-fn fill(form: Form, set: u32, out: &mut [u8]) {
-    fill_keyed(form, set, record_calls::KEY, out);
-}
-
-fn fill_keyed(form: Form, set: u32, key: u32, out: &mut [u8]) {
-    let list = places();
-    records::write(
-        form,
+// The sample for a set, with the list of a set.
+fn sample(rt: &impl Print, set: u32, list_of: u32, room: usize) -> io::Result<()> {
+    let entries = Entries::sample();
+    let signature = Signature {
         set,
-        key,
-        &first_vector(),
-        &second_vector(),
-        record_calls::first_places(&list, record_calls::kappa_of(set)),
-        out,
-    );
+        ..entries.signature(list_of)
+    };
+    writing(rt, Form::Plain, signature, room)
 }
 
-fn sample(set: u32, list_of: u32, room: usize) {
-    record_calls::writing(
-        Form::Plain,
-        set,
-        &first_vector(),
-        &second_vector(),
-        &places(),
-        record_calls::kappa_of(list_of),
-        room,
-    );
+// z1 as so many times the same number, z2 dagger as so many zeros.
+#[derive(Clone, Copy)]
+struct Alike {
+    set: u32,
+    entry: i16,
+    z1: usize,
+    z2: usize,
+    list_of: u32,
+    room: usize,
 }
 
-// z1 as n1 times the same number, z2 dagger as n2 zeros.
-fn alike(set: u32, x: i16, n1: usize, n2: usize, list_of: u32, room: usize) {
-    record_calls::signed16(b"every entry of z1 is ", x);
-    record_calls::print(b"\n");
-    parts(
-        set,
-        &record_calls::wide_of(x),
-        n1,
-        &record_calls::narrow_of(0),
-        n2,
-        record_calls::kappa_of(list_of),
-        room,
-    );
+const USUAL: Alike = Alike {
+    set: 1,
+    entry: 7,
+    z1: Set::DIMENSION,
+    z2: Set::DIMENSION,
+    list_of: 1,
+    room: ROOM,
+};
+
+fn equal_entries(rt: &impl Print, case: Alike) -> io::Result<()>
+    requires { (case.z1 ≤ 600) × (case.z2 ≤ 600) }
+{
+    println!(rt; "every entry of z1 is {}", case.entry)?;
+    let entries = Entries::zero();
+    let signature = Signature {
+        set: case.set,
+        z1: &[case.entry; 600][..case.z1],
+        z2: &[0; 600][..case.z2],
+        ..entries.signature(case.list_of)
+    };
+    writing(rt, Form::Plain, signature, case.room)
 }
 
-// The first entries of each.
-fn parts(set: u32, z1: &[i16], n1: usize, z2: &[i8], n2: usize, count: usize, room: usize) {
-    if n1 <= z1.len() {
-        if n2 <= z2.len() {
-            record_calls::writing(
-                Form::Plain,
-                set,
-                &z1[0..n1],
-                &z2[0..n2],
-                &places(),
-                count,
-                room,
-            );
+// A byte of a record of set 1 made larger by a number, modulo 256.
+fn more_by(rt: &impl Print, form: Form, at: usize, by: u8) -> io::Result<()>
+    requires { at < 24 }
+{
+    println!(rt; "byte {at} more by {by}")?;
+    let mut rec = record_of(form, 1);
+    rec[at] = rec[at].wrapping_add(by);
+    examining(rt, form, record_in(&rec, form, 1))
+}
+
+// Where the list's section call answers otherwise than to a byte less, a line, and what the reader answers.
+fn each_length(rt: &impl Print, rec: &[u8; ROOM]) -> io::Result<()> {
+    let mut last = None;
+    for n in 0..=ROOM {
+        let lent = &rec[..n];
+        let section = Section::fetched(lent, Part::List);
+        let answer = Some(section.answer);
+        if answer != last {
+            println!(rt; "first bytes: {n}; list section {section}")?;
+            reading(rt, Form::Plain, lent, Lengths::FULL)?;
         }
+        last = answer;
     }
+    Ok(())
 }
 
-fn with_buffers(lent: usize, n1: usize, n2: usize, n3: usize) {
-    let mut rec = record_calls::bytes_of(0);
-    fill(Form::Plain, 2, &mut rec);
-    record_calls::reading(Form::Plain, record_calls::front(&rec, lent), n1, n2, n3);
+// One entry that is not 0, by the writer; and the same in a record that was not written so. (The text, the vector and the offset differ: no plainer as one.)
+// Cases whose place a `requires` bounds are calls: over a table nothing is known of the place.
+fn one_entry(rt: &impl Print, set: u32, at: usize, value: i16) -> io::Result<()>
+    requires { at < 512 }
+{
+    println!(rt; "z1 entry {at} is {value}")?;
+    let mut entries = Entries::zero();
+    entries.z1[at] = value;
+    writing(rt, Form::Plain, entries.signature(set), ROOM)?;
+    raw(rt, set, Z1_OFFSET + 2 * at, value.cast_unsigned())
 }
 
-// A byte of the record made larger by a number, modulo 256; then the byte is put back.
-fn more_by(rec: &mut [u8], at: usize, by: u8) {
-    if at < rec.len() {
-        record_calls::number(b"byte ", at as u64);
-        record_calls::number(b" more by ", by as u64);
-        record_calls::print(b"\n");
-        let old = rec[at];
-        rec[at] = std::num::wrapping_add_u8(old, by);
-        record_calls::reading(Form::Plain, rec, 512, 512, Set::LIST_LIMIT);
-        record_calls::sections(rec);
-        rec[at] = old;
-    }
+fn one_rounded(rt: &impl Print, set: u32, at: usize, value: i8) -> io::Result<()>
+    requires { at < 512 }
+{
+    println!(rt; "z2 dagger entry {at} is {value}")?;
+    let mut entries = Entries::zero();
+    entries.z2[at] = value;
+    writing(rt, Form::Plain, entries.signature(set), ROOM)?;
+    raw(rt, set, Z2_OFFSET + at, u16::from(value.cast_unsigned()))
 }
 
-// One entry that is not 0, by the writer; and the same in a record that was not written so.
-fn one_entry(set: u32, at: usize, value: i16) {
-    if at < 512 {
-        record_calls::number(b"z1 entry ", at as u64);
-        record_calls::signed16(b" is ", value);
-        record_calls::print(b"\n");
-        let mut z1 = record_calls::wide_of(0);
-        z1[at] = value;
-        parts(
-            set,
-            &z1,
-            512,
-            &record_calls::narrow_of(0),
-            512,
-            record_calls::kappa_of(set),
-            ROOM,
-        );
-        raw(set, Z1_OFFSET + 2 * at, byte_codes::bits16(value));
-    }
-}
-
-fn one_rounded(set: u32, at: usize, value: i8) {
-    if at < 512 {
-        record_calls::number(b"z2 dagger entry ", at as u64);
-        record_calls::signed8(b" is ", value);
-        record_calls::print(b"\n");
-        let mut z2 = record_calls::narrow_of(0);
-        z2[at] = value;
-        parts(
-            set,
-            &record_calls::wide_of(0),
-            512,
-            &z2,
-            512,
-            record_calls::kappa_of(set),
-            ROOM,
-        );
-        raw(set, Z2_OFFSET + at, byte_codes::bits8(value) as u16);
-    }
-}
-
-fn one_place(at: usize, place: u16) {
-    let mut list = places();
-    if at < Set::LIST_LIMIT {
-        record_calls::number(b"list entry ", at as u64);
-        record_calls::number(b" is ", place as u64);
-        record_calls::print(b"\n");
-        list[at] = place;
-        record_calls::writing(
-            Form::Plain,
-            1,
-            &first_vector(),
-            &second_vector(),
-            &list,
-            record_calls::kappa_of(1),
-            ROOM,
-        );
-        raw(1, LIST_OFFSET + 2 * at, place);
-    }
+fn one_place(rt: &impl Print, at: usize, place: u16) -> io::Result<()>
+    requires { at < 113 }
+{
+    println!(rt; "list entry {at} is {place}")?;
+    let mut entries = Entries::sample();
+    entries.places[at] = place;
+    writing(rt, Form::Plain, entries.signature(1), ROOM)?;
+    raw(rt, 1, LIST_OFFSET + 2 * at, place)
 }
 
 // The record of a set, with two of its bytes changed.
-fn raw(set: u32, at: usize, x: u16) {
-    let mut rec = record_calls::bytes_of(0);
-    fill(Form::Plain, set, &mut rec);
-    change(&mut rec, at, x);
-    record_calls::reading(
+fn raw(rt: &impl Print, set: u32, at: usize, x: u16) -> io::Result<()>
+    requires { at < 1799 }
+{
+    let mut rec = record_of(Form::Plain, set);
+    put(&mut rec, at, x);
+    let lent = record_in(&rec, Form::Plain, set);
+    reading(rt, Form::Plain, lent, Lengths::FULL)
+}
+
+// A packed record with one bit of its last byte turned.
+fn turned(rt: &impl Print, set: u32, bit: u8) -> io::Result<()> {
+    println!(rt; "last byte, bit {bit} turned")?;
+    let mut rec = record_of(Form::Packed, set);
+    let total = total_of(Form::Packed, set).min(ROOM);
+    if let Some(last) = rec[..total].last_mut() {
+        *last ^= bit;
+    }
+    reading(rt, Form::Packed, &rec[..total], Lengths::FULL)
+}
+
+// The packed record of set 1, with two of its bytes changed; and unpacked.
+fn packed_pair(rt: &impl Print, text: &str, at: usize, x: u16) -> io::Result<()>
+    requires { at < 1799 }
+{
+    println!(rt; "{text}")?;
+    let mut rec = record_of(Form::Packed, 1);
+    put(&mut rec, at, x);
+    reading(
+        rt,
+        Form::Packed,
+        record_in(&rec, Form::Packed, 1),
+        Lengths::FULL,
+    )?;
+    converting(
+        rt,
+        Form::Packed,
         Form::Plain,
-        record_calls::front(&rec, record_calls::total_of(Form::Plain, set)),
-        512,
-        512,
-        Set::LIST_LIMIT,
-    );
+        record_in(&rec, Form::Packed, 1),
+        ROOM,
+    )?;
+    Ok(())
 }
 
-fn change(rec: &mut [u8], at: usize, x: u16) {
-    if at < ROOM - 1 {
-        if at + 1 < rec.len() {
-            byte_codes::put_number(rec, at, x);
-        }
-    }
+// A record of a form, taken for one of the other.
+fn taken_for(rt: &impl Print, form: Form, other: Form) -> io::Result<()> {
+    let rec = record_of(form, 2);
+    let lent = record_in(&rec, form, 2);
+    examining(rt, other, lent)?;
+    converting(rt, other, form, lent, ROOM)?;
+    Ok(())
 }
 
-fn each_length(set: u32) {
-    let mut rec = record_calls::bytes_of(0);
-    fill(Form::Plain, set, &mut rec);
-    from_nothing(&rec);
+// 5 before 10, 10 before 14: the second place as the first, then z1 past the limit.
+fn packing(rt: &impl Print, lent: usize, room: usize) -> io::Result<()> {
+    let mut rec = record_of(Form::Plain, 1);
+    converting(rt, Form::Plain, Form::Packed, first(&rec, lent), room)?;
+    put(&mut rec, Z1_OFFSET, 2101);
+    converting(
+        rt,
+        Form::Plain,
+        Form::Packed,
+        record_in(&rec, Form::Plain, 1),
+        room,
+    )?;
+    put(&mut rec, LIST_OFFSET, 7);
+    converting(
+        rt,
+        Form::Plain,
+        Form::Packed,
+        record_in(&rec, Form::Plain, 1),
+        room,
+    )?;
+    Ok(())
 }
 
-fn from_nothing(rec: &[u8]) {
-    let mut last = 0;
-    let mut n = 0;
-    while n <= ROOM {
-        last = at_length(rec, n, last);
-        n += 1;
-    }
+// 13 at the spare bit before 5, and that before 14.
+fn unpacking(rt: &impl Print, lent: usize, room: usize) -> io::Result<()> {
+    let mut rec = record_of(Form::Packed, 1);
+    converting(rt, Form::Packed, Form::Plain, first(&rec, lent), room)?;
+    put(&mut rec, 1112, 7 + 512 * 7);
+    converting(
+        rt,
+        Form::Packed,
+        Form::Plain,
+        record_in(&rec, Form::Packed, 1),
+        room,
+    )?;
+    rec[1137] ^= 128;
+    converting(
+        rt,
+        Form::Packed,
+        Form::Plain,
+        record_in(&rec, Form::Packed, 1),
+        room,
+    )?;
+    Ok(())
 }
 
-// What the list's section call answers to the first n bytes: where that is not the last answer, a line, and what the reader answers.
-fn at_length(rec: &[u8], n: usize, last: u64) -> u64 {
-    let lent = record_calls::front(rec, n);
-    let mut k = 99;
-    let mut place = 99;
-    let bytes = records::list_section(lent, &mut k, &mut place);
-    let now = (k as u64) * 65536 + (place as u64) % 65536;
-    if now != last {
-        record_calls::number(b"first bytes: ", n as u64);
-        record_calls::part(b"; list section", bytes, k, place);
-        record_calls::print(b"\n");
-        record_calls::reading(Form::Plain, lent, 512, 512, Set::LIST_LIMIT);
-    }
-    now
+fn keyed(rt: &impl Print, form: Form, other: Form, key: u32) -> io::Result<()> {
+    let rec = record_with(form, 1, key);
+    let lent = record_in(&rec, form, 1);
+    key_bytes(rt, &rec)?;
+    reading(rt, form, lent, Lengths::FULL)?;
+    let out = converting(rt, form, other, lent, ROOM)?;
+    key_bytes(rt, &out)?;
+    let converted = record_in(&out, other, 1);
+    reading(rt, other, converted, Lengths::FULL)
+}
+
+fn key_bytes(rt: &impl Print, rec: &[u8; ROOM]) -> io::Result<()> {
+    println!(rt;
+        "  bytes 20 to 23 are {}, {}, {}, {}",
+        rec[20], rec[21], rec[22], rec[23]
+    )
+}
+
+// Two bytes of a record, the lower first.
+fn put(rec: &mut [u8; ROOM], at: usize, x: u16)
+    requires { at < 1799 }
+{
+    rec[at..at + 2].copy_from_slice(&x.to_le_bytes());
 }

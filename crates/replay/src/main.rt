@@ -6,17 +6,16 @@
 mod entries;
 mod tally;
 
-use std::fs;
+use entries::Kind;
+use std::{fs, io};
 
-fn main(rt: HostRuntime) -> std::io::Result<()> {
-    file(&rt, "vectors_before_keys.bin", true)?;
-    file(&rt, "vectors.bin", false)
+fn main(rt: HostRuntime) -> io::Result<()> {
+    file(&rt, "vectors_before_keys.bin", Kind::BeforeKeys)?;
+    file(&rt, "vectors.bin", Kind::Today)
 }
 
-fn file(rt: &HostRuntime, path: &str, before: bool) -> std::io::Result<()> {
-    tally::text(path.as_bytes());
-    tally::text(b"\n");
+fn file(rt: &HostRuntime, path: &str, kind: Kind) -> io::Result<()> {
+    println!(rt; "{path}")?;
     let bytes = fs::read(rt, path)?;
-    entries::replay(&bytes, before);
-    Ok(())
+    entries::run(rt, &bytes, kind)
 }

@@ -4,202 +4,166 @@
 //   No call takes this key (refusal 15, see signing_points): its walk is a point of the draw.
 #![tactic(auto)]
 
-ghost use Rattle.std.specs.Prelude.{◌≡◌, true, ◌+◌, ◌*◌, ◌^◌, ◌<◌, ◌≤◌, length};
+ghost use Rattle.std.specs.Prelude.{◌≡◌, true, ◌+◌, ◌*◌, ◌^◌, ◌<◌, ◌≤◌};
 ghost use Rattle.laws.specs.Lists.{every};
-ghost use Rattle.sets.specs.Numbers.{dimension, list_limit, kappa_of, key_limit_of};
+ghost use Rattle.sets.specs.Numbers.{kappa_of, key_limit_of};
 ghost use Rattle.vectors.specs.Vectors.{within, squares};
 ghost use Rattle.vectors.specs.Pairs.{pair, squares_pair};
 ghost use Rattle.vectors.specs.Places.{proper_list};
 
 use draw::Ending;
-use sets::Set;
+use sets::{Polynomial, Set};
+use std::{array, fmt, io};
 
-// The descriptor of the standard output.
-const STDOUT: i32 = 1;
-
-fn main() {
-    print_sum(0);
-    print_sum(1);
-    print_sum(2);
-    print(b"set 1, f = 1, g = 0, masks zero, list 0 .. 22\n");
-    print_response(Set::I);
-}
-
-// ---- 12288 t modulo 24578
-
-fn print_sum(t: u16) {
-    print(b"12288 t modulo 24578, t = ");
-    io::print_decimal(STDOUT, t as u64);
-    print_number(b": ", rounding::sum(t, 0) as u64);
+fn main(rt: HostRuntime) -> io::Result<()> {
+    for t in 0..3 {
+        println!(rt; "12288 t modulo 24578, t = {t}: {}", rounding::sum(t, 0))?;
+    }
+    println!(rt; "set 1, f = 1, g = 0, masks zero, list 0 .. 22")?;
+    key_of_one(&rt, Set::I)
 }
 
 // ---- the response, up to the numbers of its trials
 
 // f = 1 and g = 0: s1 is f, and s2 is made of g.
-fn print_response(s: Set) {
-    let mut f = [0i16; Set::DIMENSION];
-    let mut g = [0i16; Set::DIMENSION];
+fn key_of_one(rt: &impl Print, s: Set) -> io::Result<()> {
+    let mut f = [0; Set::DIMENSION];
+    let mut g = [0; Set::DIMENSION];
     f[0] = 1;
     keys::make_second(&mut g);
-    respond(s, &f, &g);
+    respond(rt, s, &f, &g)
 }
 
 // With the list of the first kappa places.
-fn respond(s: Set, s1: &[i16], s2: &[i16])
-    requires { (length s1.now ≡ dimension) × (length s2.now ≡ dimension) × (every (within 5) s1.now ≡ true) × (every (within 5) s2.now ≡ true) }
+fn respond(rt: &impl Print, s: Set, s1: &Polynomial<i16>, s2: &Polynomial<i16>) -> io::Result<()>
+    requires s1_small { every (within 5) s1.now ≡ true }
+    requires s2_small { every (within 5) s2.now ≡ true }
 {
-    let mut places = [0u16; Set::LIST_LIMIT];
-    count_up(&mut places);
-    let kappa = s.kappa();
-    let list = &places[..kappa];
-    if s.key_limit() < vectors::squared_length(s1) + vectors::squared_length(s2) {
-        return;
+    let places: [u16; Set::LIST_LIMIT] = array::from_fn(|i| i as u16);
+    let list = &places[..s.kappa()];
+    if s.key_limit() < vectors::squared_length(s1) + vectors::squared_length(s2)
+        || !vectors::is_proper(s, list)
+    {
+        return Ok(());
     }
-    if !vectors::is_proper(s, list) {
-        return;
-    }
-    choose(s, s1, s2, list);
+    choose(rt, s, s1, s2, list)
 }
 
-fn count_up(places: &mut [u16])
-    requires { length places.old ≡ list_limit }
+fn choose(
+    rt: &impl Print,
+    s: Set,
+    s1: &Polynomial<i16>,
+    s2: &Polynomial<i16>,
+    list: &[u16],
+) -> io::Result<()>
+    requires s1_small { every (within 5) s1.now ≡ true }
+    requires s2_small { every (within 5) s2.now ≡ true }
+    requires short { squares s1.now + squares s2.now ≤ key_limit_of s }
+    requires proper { proper_list s list.now ≡ true }
 {
-    for i in 0..Set::LIST_LIMIT {
-        places[i] = i as u16;
-    }
-}
-
-fn choose(s: Set, s1: &[i16], s2: &[i16], list: &[u16])
-    requires s1_len { (length s1.now ≡ dimension) × (length s2.now ≡ dimension) × (every (within 5) s1.now ≡ true) × (every (within 5) s2.now ≡ true) }
-    requires s2_bound { (squares s1.now + squares s2.now ≤ key_limit_of s) × (proper_list s list.now ≡ true) }
-{
-    let mut v1 = [0i16; Set::DIMENSION];
-    let mut v2 = [0i16; Set::DIMENSION];
+    let mut v1 = [0; Set::DIMENSION];
+    let mut v2 = [0; Set::DIMENSION];
     choices::choose(s1, s2, list, &mut v1, &mut v2);
-    show(s, &v1, &v2);
+    show(rt, s, &v1, &v2)
 }
 
 // The masks are zero, and the sign bit is 0.
-fn show(s: Set, v1: &[i16], v2: &[i16])
-    requires { (length v1.now ≡ dimension) × (length v2.now ≡ dimension) × (squares v1.now + squares v2.now ≤ kappa_of s * key_limit_of s) }
+fn show(rt: &impl Print, s: Set, v1: &Polynomial<i16>, v2: &Polynomial<i16>) -> io::Result<()>
+    requires { squares v1.now + squares v2.now ≤ kappa_of s * key_limit_of s }
 {
     let kappa = s.kappa();
-    print_half(b"  v1", v1, kappa);
-    print_half(b"  v2", v2, kappa);
+    print_half(rt, "v1", v1, kappa)?;
+    print_half(rt, "v2", v2, kappa)?;
     let squared = masking::squared_length(v1, v2);
-    print_number(b"  squared length of v: ", squared);
+    println!(rt; "  squared length of v: {squared}")?;
     let first = masking::first_trial(s, squared);
     let second = second_trial(v1, v2, squared);
-    print_number(b"  first trial: ", first as u64);
-    print_number(b"  second trial: ", second as u64);
-    walks(first, second);
+    println!(rt; "  first trial: {first}")?;
+    println!(rt; "  second trial: {second}")?;
+    walks(rt, Trials { first, second })
 }
 
-fn second_trial(v1: &[i16], v2: &[i16], squared: u64) -> u32
-    requires { (length v1.now ≡ dimension) × (length v2.now ≡ dimension) × (squared ≡ squares_pair (pair v1.now v2.now)) × (squared < 2 ^ 30) }
+// The entries of one half of v at the first kappa places, and at the others.
+fn print_half(rt: &impl Print, name: &str, v: &Polynomial<i16>, kappa: usize) -> io::Result<()>
+    requires { kappa ≤ 512 }
 {
-    let masks = [0i16; Set::DIMENSION];
+    let (first, others) = v.split_at(kappa);
+    let (first, others) = (Counts(first), Counts(others));
+    println!(rt; "  {name}, first {kappa} places: {first}; other places: {others}")
+}
+
+fn second_trial(v1: &Polynomial<i16>, v2: &Polynomial<i16>, squared: u64) -> u32
+    requires value { squared ≡ squares_pair (pair v1.now v2.now) }
+    requires small { squared < 2 ^ 30 }
+{
+    let masks = [0; Set::DIMENSION];
     masking::second_trial(&masks, &masks, v1, v2, squared, false)
 }
 
 // ---- the walk
 
-// On words of 0, as many as are lent.
-fn walks(first: u32, second: u32) {
-    let zeros = [0u64; 12];
-    walked(b"  thresholds 1, twelve words", first, second, 1, &zeros);
-    walked(
-        b"  thresholds 1, eleven words",
-        first,
-        second,
-        1,
-        &zeros[..11],
-    );
-    walked(b"  thresholds 0, one word", first, second, 0, &zeros[..1]);
-    walked(b"  thresholds 1, no words", first, second, 1, &zeros[..0]);
-    walked(b"  thresholds 0, no words", first, second, 0, &zeros[..0]);
-    unequal(first, second);
+// The numbers of the two trials.
+#[derive(Clone, Copy)]
+struct Trials {
+    first: u32,
+    second: u32,
 }
 
-// On twenty words. The trials are of unequal numbers: exchanged, the sixth word would fall to the second, and the trial tried again would take 8 words.
-fn unequal(first: u32, second: u32) {
-    let mut words = [0u64; 20];
+fn walks(rt: &impl Print, trials: Trials) -> io::Result<()> {
+    // On words of 0, as many as are lent.
+    let zeros = [0; 12];
+    walked(rt, trials, "thresholds 1, twelve words", 1, &zeros)?;
+    walked(rt, trials, "thresholds 1, eleven words", 1, &zeros[..11])?;
+    walked(rt, trials, "thresholds 0, one word", 0, &zeros[..1])?;
+    walked(rt, trials, "thresholds 1, no words", 1, &[])?;
+    walked(rt, trials, "thresholds 0, no words", 0, &[])?;
+    // On twenty words. The trials are of unequal numbers: exchanged, the sixth word would fall to the second, and the trial tried again would take 8 words.
+    let mut words = [0; 20];
     words[5] = 1;
-    walked(
-        b"  thresholds 1, the sixth word 1",
-        first,
-        second,
-        1,
-        &words,
-    );
+    walked(rt, trials, "thresholds 1, the sixth word 1", 1, &words)?;
     words[5] = 0;
     words[8] = 1;
     words[9] = 1;
     walked(
-        b"  thresholds 1, the ninth and the tenth 1",
-        first,
-        second,
+        rt,
+        trials,
+        "thresholds 1, the ninth and the tenth 1",
         1,
         &words,
-    );
+    )
 }
 
-fn walked(text: &[u8], first: u32, second: u32, threshold: u64, words: &[u64]) {
+fn walked(
+    rt: &impl Print,
+    trials: Trials,
+    text: &str,
+    threshold: u64,
+    words: &[u64],
+) -> io::Result<()> {
     let thresholds = [threshold; Set::PLACES];
-    let ending = draw::walk(first, second, words, &thresholds);
-    print(text);
-    match ending {
-        Ending::Accepted(_) => print(b": accepted"),
-        Ending::Rejected(_) => print(b": rejected"),
-        Ending::OutOfWords => print(b": out of words"),
+    let ending = draw::walk(trials.first, trials.second, words, &thresholds);
+    let name = match ending {
+        Ending::Accepted(_) => "accepted",
+        Ending::Rejected(_) => "rejected",
+        Ending::OutOfWords => "out of words",
+    };
+    println!(rt;
+        "  {text}: {name}, words taken {}",
+        draw::taken(ending, words)
+    )
+}
+
+// How many of the entries are -1, and how many 0.
+#[derive(Clone, Copy)]
+struct Counts<'a>(&'a [i16]);
+
+impl fmt::Display for Counts<'_> {
+    fn fmt<W: fmt::Write>(&self, f: &mut fmt::Formatter<W>) -> fmt::Result {
+        let (minus_ones, zeros) = (count(self.0, -1), count(self.0, 0));
+        write!(f, "{minus_ones} are -1, {zeros} are 0")
     }
-    print_number(b", words taken ", draw::taken(ending, words) as u64);
 }
 
-// ---- what is printed
-
-// The entries of one half of v at the first kappa places, and at the others.
-fn print_half(name: &[u8], v: &[i16], kappa: usize)
-    requires { (length v.now ≡ dimension) × (kappa ≤ dimension) }
-{
-    print(name);
-    print(b", first ");
-    io::print_decimal(STDOUT, kappa as u64);
-    print(b" places: ");
-    print_counts(&v[..kappa]);
-    print(b"; other places: ");
-    print_counts(&v[kappa..]);
-    print(b"\n");
-}
-
-fn print_counts(entries: &[i16]) {
-    io::print_decimal(STDOUT, count(entries, -1) as u64);
-    print(b" are -1, ");
-    io::print_decimal(STDOUT, count(entries, 0) as u64);
-    print(b" are 0");
-}
-
-// How many of the entries are x.
 fn count(entries: &[i16], x: i16) -> usize {
-    let mut found = 0;
-    for i in 0..entries.len() {
-        found += one_if_same(entries[i], x);
-    }
-    found
-}
-
-fn one_if_same(x: i16, y: i16) -> usize
-    ensures { result ≤ 1 }
-{
-    if x == y { 1 } else { 0 }
-}
-
-fn print_number(text: &[u8], number: u64) {
-    print(text);
-    io::print_decimal(STDOUT, number);
-    print(b"\n");
-}
-
-fn print(text: &[u8]) {
-    io::write_all(STDOUT, text);
+    entries.iter().filter(|&&entry| entry == x).count()
 }

@@ -10,10 +10,6 @@ use Rattle.sets.specs.Numbers.{modulus}
 pub residues_product : {x y : ℕ} → x ≤ 12288 → y ≤ 12288 → x * y ≤ 150994944
 residues_product p q = mul-le-mul p q
 
--- a product of two numbers of 16 bits
-pub halfwords_product : {x y : ℕ} → x ≤ 65535 → y ≤ 65535 → x * y ≤ 4294836225
-halfwords_product p q = mul-le-mul p q
-
 -- r y / 2^16 is at most w y / q and misses it by less than 2, where r is 2^16 w / q, rounded down
 pub estimated : (w r y : ℕ) → r ≡ w * 65536 / modulus → y ≤ 65535 → (r * y / 65536 * modulus ≤ w * y) × (w * y < r * y / 65536 * modulus + 24578)
 estimated w r y is h =
@@ -26,12 +22,9 @@ estimated w r y is h =
     (omega arith, omega arith)
 
 -- a difference that is small shows in the last 16 bits
-pub seen : (a b : ℕ) → b ≤ a → a < b + 24578 → (a % 65536 + 65536 - b % 65536) % 65536 ≡ a - b
+pub seen : (a b : ℕ) → b ≤ a → a < b + 24578 → (a % 65536 + (65536 - b % 65536)) % 65536 ≡ a - b
 seen a b p q = omega arith
 
--- what is left of p with k times q taken off is its residue, or that and q
-pub residue_left : (p k left : ℕ) → left ≡ p - k * modulus → k * modulus ≤ p → left < modulus → left ≡ p % modulus
-residue_left p k left e h l = omega arith
-
-pub residue_over : (p k left : ℕ) → left ≡ p - k * modulus → p < k * modulus + 24578 → modulus ≤ left → left - modulus ≡ p % modulus
-residue_over p k left e h l = omega arith
+-- multiples of q taken off leave the residue
+pub residue_left : (p k : ℕ) → k * modulus ≤ p → (p - k * modulus) % modulus ≡ p % modulus
+residue_left p k h = omega arith

@@ -4,5 +4,6 @@ mod Estimates
 mod Products
 mod Spectra
 mod Halves
+mod Maps
 mod Rows
 mod Layers

@@ -3,32 +3,17 @@
 #![tactic(auto)]
 
 use sets::Set;
+use std::io;
 
-// The descriptor of the standard output.
-const STDOUT: i32 = 1;
+const PRODUCTS: usize = 2000;
 
-fn digit(x: u16) -> u8 {
-    b'0' + ((x % 10) as u8)
-}
-
-fn main() {
-    let mut a = [12288u16; Set::DIMENSION];
+fn main(rt: HostRuntime) -> io::Result<()> {
+    let mut key = [12288u16; Set::DIMENSION];
     let z = [-4096i16; Set::DIMENSION];
-    let mut out = [0u16; Set::DIMENSION];
-    let mut n: usize = 0;
-    while n < 2000 {
-        ring::key_product(&a, &z, &mut out);
-        a = out;
-        n += 1;
+    let mut product = [0u16; Set::DIMENSION];
+    for _ in 0..PRODUCTS {
+        ring::key_product(&key, &z, &mut product);
+        key = product;
     }
-    let x = out[511];
-    let line = [
-        digit(x / 10000),
-        digit(x / 1000),
-        digit(x / 100),
-        digit(x / 10),
-        digit(x),
-        b'\n',
-    ];
-    io::write_all(STDOUT, &line);
+    println!(rt; "{:05}", product[Set::DIMENSION - 1])
 }

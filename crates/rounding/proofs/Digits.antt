@@ -2,12 +2,13 @@
 use mathlib.Core.Path.{◌≡◌, refl, sym, ap, ◌∙◌}
 use mathlib.Core.List.{[], ◌∷◌}
 use Prim.Native.Nat.{ℕ, suc, ◌+◌, ◌-◌, ◌/◌, ◌%◌, ◌^◌, ◌<◌, ◌≤◌}
-use native.Mathlib.Nat.{div-lt_iff_lt-mul, suc-mul, mod-lt, mod-eq_of_lt, mod_self}
+use native.Mathlib.Nat.{div-lt_iff_lt-mul, suc-mul, mod-eq_of_lt, mod_self}
 use native.Mathlib.Omega.{arith}
-use lib.IntN.{ℤ, pos, nat_abs, ◌+ℤ◌, ◌-ℤ◌, ◌*ℤ◌}
+use lib.IntN.{ℤ, pos, negsuc, nat_abs, ◌+ℤ◌, ◌-ℤ◌, ◌*ℤ◌}
+use Rattle.std.specs.Int.{int_rem_euclid}
 use Rattle.laws.specs.Integers.{residue}
 use Rattle.laws.proofs.Linear.{le_in, lt_in, le_out, lt_out, eq_out, size_le, sum, difference, opposite}
-use Rattle.laws.proofs.Congruence.{Cong, cong_eq, cong_trans, cong_multiple, residue_is, residue_small, residue_same, residue_cong, cong_sym, cong_add, cong_refl, cong_mod}
+use Rattle.laws.proofs.Congruence.{Cong, cong_trans, residue_is, residue_small, residue_same, residue_cong, cong_sym, cong_add, cong_refl}
 use Rattle.laws.proofs.Solver.{v, k, ◌⊕◌, ◌⊗◌, ring}
 use Rattle.sets.specs.declared.Set.{Set}
 use Rattle.sets.specs.Numbers.{twice_modulus, d_of, p_of}
@@ -68,10 +69,10 @@ module _ (s : Set) where
   centre_low x h =
       sym (centred_alone s (pos x) (pos x) (le_out (omega (arith, opposite (pos (p_of s / 2)))), lt_out (omega arith)) (pos 0, eq_out (pos x) (pos x +ℤ pos (p_of s) *ℤ pos 0) (omega arith)))
 
-  pub centre_high : (x : ℕ) → p_of s / 2 ≤ x → x < p_of s → pos 0 -ℤ pos (p_of s - x) ≡ centred s (pos x)
+  pub centre_high : (x : ℕ) → p_of s / 2 ≤ x → x < p_of s → pos x -ℤ pos (p_of s) ≡ centred s (pos x)
   centre_high x h j =
-      let c : ℤ = pos 0 -ℤ pos (p_of s - x) in
-      let e = difference (pos 0) (pos (p_of s - x)) in
+      let c : ℤ = pos x -ℤ pos (p_of s) in
+      let e = difference (pos x) (pos (p_of s)) in
       sym (centred_alone s (pos x) c
       (le_out (omega (arith, e, opposite (pos (p_of s / 2)), p_even s)), lt_out (omega (arith, e)))
       (pos 1, eq_out (pos x) (c +ℤ pos (p_of s) *ℤ pos 1) (omega (arith, e, sum c (pos (p_of s) *ℤ pos 1)))))
@@ -81,10 +82,11 @@ module _ (s : Set) where
   unfolding centred
   centred_same x y e = rw e
 
--- a whole number plus a multiple of m has the residue of the sum, wherever the sum is a natural number
-pub residue_of_sum : (m n : ℕ) (t z : ℤ) → 0 < m → pos n ≡ z +ℤ pos m *ℤ t → n % m ≡ residue m z
-residue_of_sum m n t z h e =
-    sym (residue_is h (cong_trans (cong_sym (cong_trans (cong_eq e) (cong_multiple z t))) (cong_mod n)) (mod-lt n h))
+-- the remainder of a whole number that is not negative is its residue
+pub euclid : (z : ℤ) → nat_abs (int_rem_euclid z (pos twice_modulus)) ≡ residue twice_modulus z
+unfolding residue
+euclid (pos n) = refl
+euclid (negsuc n) = omega arith
 
 module _ (s : Set) where
   -- a difference of upper digits, with p added so that it is not negative

@@ -10,31 +10,31 @@ use Rattle.laws.proofs.Bounds.{cond_ind}
 use Rattle.laws.proofs.Chain.{and_left, and_right}
 use Rattle.sets.specs.declared.Set.{Set}
 use Rattle.sets.specs.declared.Set.TheVariants.{I, II, III, IV, «V», VI, VII, VIII}
-use Rattle.sets.specs.declared.Asked.TheVariants.{Known}
+use Rattle.std.specs.Prelude.{Some}
 use Rattle.sets.specs.Numbers.{dimension, twice_modulus, mask_limit, list_limit, all, Largest, kappa_of, d_of, p_of, largest_of, bound_of, bound_squared_of, key_limit_of, ones_of, twos_of, coefficient_limit_of, set_number_of, last_number, numbered, named_of, asked_of, default_one}
 
 -- ---- all sets
 
 -- a set's number stands for the set: so each is among all of them, and nothing else goes by cases
-pub named_back : (s : Set) → named_of (set_number_of s) ≡ Known s
+pub named_back : (s : Set) → named_of (set_number_of s) ≡ Some s
 unfolding named_of numbered
-named_back s = elim s as (λ k. named_of (set_number_of k) ≡ Known k) [ I ↦ refl | II ↦ refl | III ↦ refl | IV ↦ refl | «V» ↦ refl | VI ↦ refl | VII ↦ refl | VIII ↦ refl ]
+named_back s = elim s as (λ k. named_of (set_number_of k) ≡ Some k) [ I ↦ refl | II ↦ refl | III ↦ refl | IV ↦ refl | «V» ↦ refl | VI ↦ refl | VII ↦ refl | VIII ↦ refl ]
 
 -- whether a test holds of all of some sets
 abbrev throughout : List Set → (Set → Bool) → Bool
 throughout sets test = foldr (λ s. ◌&&◌ (test s)) true sets
 
 -- the set among some that has a number: the number is its own, and what holds of all of them holds of it
-found : (s : Set) (n : ℕ) (test : Set → Bool) (sets : List Set) → numbered n sets ≡ Known s → (n ≡ set_number_of s) × (throughout sets test ≡ true → test s ≡ true)
+found : (s : Set) (n : ℕ) (test : Set → Bool) (sets : List Set) → numbered n sets ≡ Some s → (n ≡ set_number_of s) × (throughout sets test ≡ true → test s ≡ true)
 unfolding numbered
 found s n test [] e = let z : ◌≡◌ {A = ℕ} 0 1 = cc in absurd (omega (arith, z))
 found s n test (s' ∷ rest) e =
-    cond_ind (eqb n (set_number_of s')) (Known s') (numbered n rest) (λ a. a ≡ Known s → (n ≡ set_number_of s) × (throughout (s' ∷ rest) test ≡ true → test s ≡ true))
+    cond_ind (eqb n (set_number_of s')) (Some s') (numbered n rest) (λ a. a ≡ Some s → (n ≡ set_number_of s) × (throughout (s' ∷ rest) test ≡ true → test s ≡ true))
     (λ t k. let same : s' ≡ s = cc in (eqb→eq n (set_number_of s') t ∙ ap set_number_of same, λ h. subst (λ x. test x ≡ true) same (and_left (test s') _ h)))
     (λ t k. let later = found s n test rest k in (later.0, λ h. later.1 (and_right (test s') _ h)))
     e
 
-pub named_is : (s : Set) (n : ℕ) → named_of n ≡ Known s → n ≡ set_number_of s
+pub named_is : (s : Set) (n : ℕ) → named_of n ≡ Some s → n ≡ set_number_of s
 unfolding named_of
 named_is s n e = (found s n (λ _. true) all e).0
 
@@ -144,11 +144,11 @@ pub asked_named : (n : ℕ) → (n ≡ 0 → ⊥) → asked_of n ≡ named_of n
 unfolding asked_of
 asked_named n h = rw (ne_eqb n 0 h)
 
-pub asked_back : (s : Set) → asked_of (set_number_of s) ≡ Known s
+pub asked_back : (s : Set) → asked_of (set_number_of s) ≡ Some s
 asked_back s = asked_named (set_number_of s) (λ e. omega (arith, number_positive s, e)) ∙ named_back s
 
 -- 0 asks for set 4
-pub asked_zero : asked_of 0 ≡ Known IV
+pub asked_zero : asked_of 0 ≡ Some IV
 unfolding asked_of
 asked_zero = refl
 

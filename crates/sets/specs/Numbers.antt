@@ -1,11 +1,9 @@
 -- The numbers of the sets: the table of 01, "Parameters", and the longer challenges of 02, C-22.
-use Rattle.std.specs.Prelude.{◌≡◌, cond, List, [], ◌∷◌, ℕ, ◌≤◌, eqb}
+use Rattle.std.specs.Prelude.{◌≡◌, cond, List, [], ◌∷◌, ℕ, ◌≤◌, eqb, Option, Some, None}
 use Rattle.sets.specs.declared.Set.{Set}
 use Rattle.sets.specs.declared.Set.TheVariants.{I, II, III, IV, «V», VI, VII, VIII}
 use Rattle.sets.specs.declared.Row.{Row}
 use Rattle.sets.specs.declared.Row.TheVariants.{First, Second, Third, Fourth}
-use Rattle.sets.specs.declared.Asked.{Asked}
-use Rattle.sets.specs.declared.Asked.TheVariants.{Known, Unknown}
 
 -- ---- alike for all sets
 
@@ -130,17 +128,17 @@ abbrev pub last_number : ℕ
 last_number = 8
 
 -- the set among some that has that number
-unfoldable pub numbered : ℕ → List Set → Asked
-numbered x [] = Unknown
-numbered x (s ∷ rest) = cond (eqb x (set_number_of s)) (Known s) (numbered x rest)
+unfoldable pub numbered : ℕ → List Set → Option Set
+numbered x [] = None
+numbered x (s ∷ rest) = cond (eqb x (set_number_of s)) (Some s) (numbered x rest)
 
 -- the set of that number
-unfoldable pub named_of : ℕ → Asked
+unfoldable pub named_of : ℕ → Option Set
 named_of x = numbered x all
 
 -- the set that a number stands for on a call: 0 stands for set 4 (02, C-17)
-unfoldable pub asked_of : ℕ → Asked
-asked_of x = cond (eqb x 0) (Known IV) (named_of x)
+unfoldable pub asked_of : ℕ → Option Set
+asked_of x = cond (eqb x 0) (Some IV) (named_of x)
 
 -- the number that a call which keeps the old default asks for: 0 becomes 1 (02, C-17)
 unfoldable pub default_one : ℕ → ℕ

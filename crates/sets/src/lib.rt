@@ -6,7 +6,7 @@ ghost use Rattle.sets.specs.Numbers.{kappa_of, like_of, d_of, p_of, largest_of, 
 
 #[derive(Clone, Copy)]
 pub enum Set {
-    I,
+    I = 1,
     II,
     III,
     IV,
@@ -16,7 +16,8 @@ pub enum Set {
     VIII,
 }
 
-// The rows of the table of 01, which sets I to IV are: the other sets are each like one of them (02, C-22).
+// The rows of the table of 01, which sets I to IV are: the other sets are each like one of them (02, C-22). Its columns are a method each: the contracts of other
+// crates name each column's definition (`d_of`, `p_of`, ..), and a struct of a row would need one more over them.
 #[derive(Clone, Copy)]
 pub enum Row {
     First,
@@ -25,13 +26,10 @@ pub enum Row {
     Fourth,
 }
 
-// The set that a number stands for, where there is one.
-#[derive(Clone, Copy)]
-pub enum Asked {
-    Known(Set),
-    Unknown,
-}
+// A polynomial, or a vector, of n coefficients.
+pub type Polynomial<T> = [T; Set::DIMENSION];
 
+// A cast of one of these constants to a narrower type keeps it: std has no `From` there, and `try_from` would answer what cannot happen.
 impl Set {
     // n: the coefficients of a polynomial.
     pub const DIMENSION: usize = 512;
@@ -178,43 +176,34 @@ impl Set {
     pub fn number(self) -> u32
         ensures { result ≡ set_number_of self }
     {
-        match self {
-            Set::I => 1,
-            Set::II => 2,
-            Set::III => 3,
-            Set::IV => 4,
-            Set::V => 5,
-            Set::VI => 6,
-            Set::VII => 7,
-            Set::VIII => 8,
-        }
+        self as u32
     }
 
-    // The set of that number.
+    // The set of that number, where there is one: an Option, since an error type of `TryFrom` would say no more.
     #[tactic(auto, unfolding(crate::specs::Numbers::named_of, crate::specs::Numbers::numbered))]
-    pub fn named(number: u32) -> Asked
+    pub fn named(number: u32) -> Option<Set>
         ensures { result ≡ named_of number }
     {
         match number {
-            1 => Asked::Known(Set::I),
-            2 => Asked::Known(Set::II),
-            3 => Asked::Known(Set::III),
-            4 => Asked::Known(Set::IV),
-            5 => Asked::Known(Set::V),
-            6 => Asked::Known(Set::VI),
-            7 => Asked::Known(Set::VII),
-            8 => Asked::Known(Set::VIII),
-            _ => Asked::Unknown,
+            1 => Some(Set::I),
+            2 => Some(Set::II),
+            3 => Some(Set::III),
+            4 => Some(Set::IV),
+            5 => Some(Set::V),
+            6 => Some(Set::VI),
+            7 => Some(Set::VII),
+            8 => Some(Set::VIII),
+            _ => None,
         }
     }
 
     // The set that a number stands for on a call: 0 stands for set 4 (02, C-17).
     #[tactic(auto, unfolding(crate::specs::Numbers::asked_of))]
-    pub fn asked(number: u32) -> Asked
+    pub fn asked(number: u32) -> Option<Set>
         ensures { result ≡ asked_of number }
     {
         if number == 0 {
-            Asked::Known(Set::IV)
+            Some(Set::IV)
         } else {
             Set::named(number)
         }

@@ -4,8 +4,7 @@ use mathlib.Core.List.{List}
 use Prim.Native.Nat.{ℕ}
 use borrow.Author.Tests.{eq-eqb, ne_eqb}
 use lib.IntN.{ℤ}
-use Rattle.answers.specs.declared.Outcome.{Outcome}
-use Rattle.answers.specs.Outcomes.{number_of, key_with}
+use Rattle.answers.specs.Outcomes.{Outcome, number_of, key_with}
 use Rattle.signing.specs.Response.{Lent, Unnumbered, unnumbered, responded, numbered, responding, response}
 
 pub key_done : (o : Outcome) (key : ℕ) → number_of o ≡ 0 → key_with o key ≡ key

@@ -1,5 +1,5 @@
 -- The ways on through a response: a refusal before the draw, the lengths that were tested, and what the sign choices bring to the draw. Assumes nothing.
-use mathlib.Core.Path.{◌≡◌, refl, ap₂}
+use mathlib.Core.Path.{◌≡◌, refl, sym, ap, ap₂, ◌∙◌}
 use mathlib.Core.Bool.{Bool, true, false, ◌&&◌}
 use mathlib.Core.List.{List}
 use Prim.Native.Nat.{ℕ}
@@ -7,23 +7,27 @@ use borrow.Author.Tests.{eq-eqb, eqb-true}
 use lib.IntN.{ℤ}
 use lib.ListN.{length}
 use Rattle.laws.specs.Refusals.{must}
-use Rattle.laws.proofs.Chain.{and_left, and_right}
+use Rattle.laws.proofs.Chain.{differ, and_left, and_right}
 use Rattle.sets.specs.declared.Set.{Set}
 use Rattle.sets.specs.Numbers.{dimension, places}
-use Rattle.answers.specs.declared.Outcome.{Outcome}
-use Rattle.answers.specs.declared.Outcome.TheVariants.{Done, RelationBroken, CountsWrong}
-use Rattle.answers.specs.Outcomes.{unless}
+use Rattle.answers.specs.Outcomes.{Outcome, Done, unless}
+use Rattle.std.specs.Prelude.{Err}
+use Rattle.answers.specs.declared.Refusal.{Refusal}
+use Rattle.answers.specs.declared.Refusal.TheVariants.{WrongLength, RelationBroken, CountsWrong}
 use Rattle.vectors.specs.Vectors.{sized}
 use Rattle.keys.specs.Key.{in_range, second, relation, right_counts, proper_key}
 use Rattle.keys.proofs.Ranges.{sized_three, sized_four}
 use Rattle.keys.proofs.Counts.{proper_by_relation, improper_by_counts}
-use Rattle.vectors.specs.Pairs.{Pair}
 use Rattle.choices.specs.Choices.{choices}
-use Rattle.signing.specs.Response.{Lent, secret, drawing, Unnumbered, unnumbered, drawn, all_sized, early}
+use Rattle.signing.specs.Response.{Lent, secret, drawing, Unnumbered, unnumbered, drawn, all_sized, early, tested, response_for}
+use Rattle.signing.specs.declared.Request.{Request}
+use Rattle.signing.specs.declared.Measured.{Measured}
+use Rattle.signing.specs.declared.Refused.{Refused}
+use Rattle.signing.specs.Requests.{lent_by, lent_measured, inputs_sized, Alike, left_with, signed_with}
 
 -- a refusal before the draw
-pub refusal_at : (o o' : Outcome) (n : ℕ) (x y : List ℤ) → o ≡ o' → n ≡ 0 → unnumbered o n x y ≡ unnumbered o' 0 x y
-refusal_at o o' n x y e h = ap₂ (λ (p : Outcome) (m : ℕ). unnumbered p m x y) e h
+pub refusal_at : (r : Refused) (x : Refusal) (z1 z2 : List ℤ) → (r.refusal ≡ x) × (r.words ≡ 0) → left_with (Err r) z1 z2 ≡ unnumbered (Err x) 0 z1 z2
+refusal_at r x z1 z2 h = ap₂ (λ (p : Refusal) (m : ℕ). unnumbered (Err p) m z1 z2) h.0 h.1
 
 -- ---- the lengths
 pub all_sized_lem : (c : Lent) → all_sized c ≡ true
@@ -52,15 +56,51 @@ are_sized c h =
       eq-eqb _ _ h.1.3,
     )
 
+-- the inputs are tested before the outputs
+module _ (r : Request) (z1 z2 : List ℤ) where
+  pub inputs_short : inputs_sized r ≡ false → all_sized (lent_by r z1 z2) ≡ false
+  inputs_short = by_tests _ (sized r.y2.now) (sized z1 && sized z2) _
+    where
+      by_tests : (p q o t : Bool) → p && (q && t) ≡ false → p && ((q && o) && t) ≡ false
+      by_tests false q o t e = refl
+      by_tests true false o t e = refl
+      by_tests true true true false e = refl
+      by_tests true true false false e = refl
+      by_tests true true o true e = absurd (differ (sym e))
+
+  pub outputs_short : sized z1 && sized z2 ≡ false → all_sized (lent_by r z1 z2) ≡ false
+  outputs_short e = by_tests (sized r.f.now && (sized r.g.now && (sized r.a.now && sized r.y1.now))) (sized r.y2.now) _ _ e
+    where
+      by_tests : (p q o t : Bool) → o ≡ false → p && ((q && o) && t) ≡ false
+      by_tests false q o t e = refl
+      by_tests true false o t e = refl
+      by_tests true true false t e = refl
+      by_tests true true true t e = absurd (differ (sym e))
+
+  pub all_long : inputs_sized r ≡ true → sized z1 && sized z2 ≡ true → all_sized (lent_by r z1 z2) ≡ true
+  all_long = by_tests (sized r.f.now && (sized r.g.now && (sized r.a.now && sized r.y1.now))) (sized r.y2.now) (sized z1 && sized z2) _
+    where
+      by_tests : (p q o t : Bool) → p && (q && t) ≡ true → o ≡ true → p && ((q && o) && t) ≡ true
+      by_tests false q o t e f = absurd (differ e)
+      by_tests true false o t e f = absurd (differ e)
+      by_tests true true false t e f = absurd (differ f)
+      by_tests true true true false e f = absurd (differ e)
+      by_tests true true true true e f = refl
+
+pub refused_length : (s : Set) (c : Lent) → all_sized c ≡ false → early c (Err WrongLength) ≡ response_for s c
+unfolding response_for
+refused_length s c e = rw e
+
+pub passed_lengths : (s : Set) (r : Request) (m : Measured) (z1 z2 : List ℤ) → Alike r m → length z1 ≡ dimension → length z2 ≡ dimension
+    → tested s (lent_measured m z1 z2) ≡ response_for s (lent_by r z1 z2)
+unfolding response_for
+passed_lengths s r m z1 z2 h l1 l2 =
+    let same : lent_measured m z1 z2 ≡ lent_by r z1 z2 = cc in
+    ap (tested s) same ∙ sym (ap (λ b. must b (early (lent_by r z1 z2) (Err WrongLength)) (tested s (lent_by r z1 z2))) (all_long r z1 z2 h.sized (rw (l1, l2))))
+
 -- ---- the key
 
--- what is left of the response once masks and list are in range and the key's counts are right: its relation, then the draw
-abbrev pub signed_with : Set → Lent → Pair → Unnumbered
-signed_with s c key =
-    must (relation c.a key.first key.second) (early c RelationBroken)
-    (drawn s (drawing c) (choices key c.list))
-
-must_unless : (related : Bool) (answer : Outcome → Unnumbered) (next : Unnumbered) → must related (answer RelationBroken) next ≡ unless (must related RelationBroken Done) answer next
+must_unless : (related : Bool) (answer : Outcome → Unnumbered) (next : Unnumbered) → must related (answer (Err RelationBroken)) next ≡ unless (must related (Err RelationBroken) Done) answer next
 must_unless true answer next = refl
 must_unless false answer next = refl
 
@@ -72,5 +112,5 @@ signed_with_lem s c range counts =
     (must_unless (relation c.a c.f (second c.g)) (early c) (drawn s (drawing c) (choices (secret c) c.list)))
 
 pub counts_refused : (s : Set) (c : Lent) (next : Unnumbered) → right_counts s c.f c.g ≡ false
-    → early c CountsWrong ≡ unless (proper_key s c.f c.g c.a) (early c) next
+    → early c (Err CountsWrong) ≡ unless (proper_key s c.f c.g c.a) (early c) next
 counts_refused s c next counts = rw (improper_by_counts s c.f c.g c.a counts)

@@ -1,2 +1,3 @@
 -- 01, "Response".
 pub mod Response
+pub mod Requests

@@ -1,11 +1,10 @@
 -- The response (01, "Response", "The draw", "Length rule" and "Numbers that come back"; 02, C-12, C-13).
-use Rattle.std.specs.Prelude.{Bool, ◌&&◌, List, ℕ, eqb, ℤ, length}
+use Rattle.std.specs.Prelude.{Bool, ◌&&◌, List, ℕ, eqb, ℤ, length, Err}
 use Rattle.laws.specs.Refusals.{must}
 use Rattle.sets.specs.declared.Set.{Set}
 use Rattle.sets.specs.Numbers.{places, asked_of}
-use Rattle.answers.specs.declared.Outcome.{Outcome}
-use Rattle.answers.specs.declared.Outcome.TheVariants.{Done, UnknownSet, WrongLength, CoefficientOutside, MaskOutside, ImproperList, DrawRejected, WordMissing}
-use Rattle.answers.specs.Outcomes.{unless, key_with, for_set}
+use Rattle.answers.specs.Outcomes.{Outcome, Done, unless, key_with, for_set}
+use Rattle.answers.specs.declared.Refusal.TheVariants.{UnknownSet, WrongLength, CoefficientOutside, MaskOutside, ImproperList, DrawRejected, WordMissing}
 use Rattle.vectors.specs.Vectors.{sized}
 use Rattle.vectors.specs.Pairs.{Pair, pair}
 use Rattle.vectors.specs.Places.{proper_list}
@@ -80,8 +79,8 @@ unfoldable pub drawn : Set → Drawing → Pair → Unnumbered
 drawn s d v =
     after_walk (walk_of (first_trial s v) (second_trial (masked d.sign d.y v) v) d.words d.thresholds)
     (λ count. given s d.old count (shortened s d (masked d.sign d.y v)))
-    (λ count. leaving d.old count DrawRejected)
-    (leaving d.old (length d.words) WordMissing)
+    (λ count. leaving d.old count (Err DrawRejected))
+    (leaving d.old (length d.words) (Err WordMissing))
 
 -- every vector has 512 entries, and there are 31 thresholds
 abbrev pub all_sized : Lent → Bool
@@ -94,19 +93,22 @@ all_sized c =
 abbrev pub early : Lent → Outcome → Unnumbered
 early c = leaving (pair c.z1 c.z2) 0
 
--- 2, 3, 4, 5, then 15, 7, 6 of the key, then the draw with v, the sign choices
-unfoldable pub response_for : Set → Lent → Unnumbered
-response_for s c =
-    must (all_sized c) (early c WrongLength)
-    (must (in_range c.f c.g c.a) (early c CoefficientOutside)
-    (must (are_masks c.y1 c.y2) (early c MaskOutside)
-    (must (proper_list s c.list) (early c ImproperList)
+-- 3, 4, 5, then 15, 7, 6 of the key, then the draw with v, the sign choices
+abbrev pub tested : Set → Lent → Unnumbered
+tested s c =
+    must (in_range c.f c.g c.a) (early c (Err CoefficientOutside))
+    (must (are_masks c.y1 c.y2) (early c (Err MaskOutside))
+    (must (proper_list s c.list) (early c (Err ImproperList))
     (unless (proper_key s c.f c.g c.a) (early c)
-    (drawn s (drawing c) (choices (secret c) c.list))))))
+    (drawn s (drawing c) (choices (secret c) c.list)))))
+
+-- 2, then the above
+unfoldable pub response_for : Set → Lent → Unnumbered
+response_for s c = must (all_sized c) (early c (Err WrongLength)) (tested s c)
 
 -- 1, then the above
 unfoldable pub responding : ℕ → Lent → Unnumbered
-responding set c = for_set (asked_of set) (early c UnknownSet) (λ s. response_for s c)
+responding set c = for_set (asked_of set) (early c (Err UnknownSet)) (λ s. response_for s c)
 
 -- ---- the key number
 

@@ -5,7 +5,9 @@
 mod key_tests;
 mod responses;
 
-fn main() {
-    key_tests::run();
-    responses::run();
+use std::io;
+
+fn main(rt: HostRuntime) -> io::Result<()> {
+    key_tests::run(&rt)?;
+    responses::run(&rt)
 }

@@ -1,9 +1,11 @@
 // The response: 01's reference point, whose thin key is refused, and keys of the set's counts.
 ghost use Rattle.std.specs.Prelude.{◌≡◌, length};
 
-use bursztok::Response;
-use lending::{rows, show};
+use bursztok::{Response, bursztok_kappa, bursztok_respond};
+use lending::show::{self, Responded};
+use lending::{first, rows};
 use sets::Set;
+use std::io;
 use test_keys::Shape;
 
 // What is lent beside masks of 0: the set; the number of the set whose list it is, kappa places from 0 on; f and g, with a = (2g + 1) / f, and so much more at
@@ -19,158 +21,190 @@ struct Case {
     sign: bool,
     threshold: u64,
     words: usize,
-    odd: usize,
+    odd: Option<usize>,
 }
 
 // The key number that is lent: it comes back with a signature, and 0 with a refusal.
 const KEY: u32 = 4042322160;
 
-// No word is odd.
-const NONE: usize = 90;
+// Words enough for each draw.
+const WORDS: usize = 90;
 
-pub fn run() {
-    thin();
-    each_set();
-    own(0, 4);
-    own(0, 1);
-    own(8, 4);
-    own(4, 8);
-    unequal();
-    counts();
-    faults();
-}
+impl Case {
+    // A key and the list of a set.
+    fn of(set: u32) -> Case {
+        Case {
+            set,
+            list_of: set,
+            f: test_keys::shape_of(set, true),
+            g: test_keys::shape_of(set, false),
+            more: 0,
+            mask: 0,
+            sign: false,
+            threshold: 1,
+            words: WORDS,
+            odd: None,
+        }
+    }
 
-// f = 1, g = 0, a = 1: refused before the draw. Its walk is in response_points.
-fn thin() {
-    show::heading(b"response, f = 1, g = 0, a = 1, masks zero, list 0 to 22, words zero");
-    shown(b"set 1, thresholds 1, twelve words", one(1, 1, 12));
-    shown(b"set 2, the same", one(2, 1, 12));
-    shown(b"eleven words", one(1, 1, 11));
-    shown(b"thresholds 0, one word", one(1, 0, 1));
-    shown(b"no words", one(1, 1, 0));
-    shown(b"set 4: 39 places are wanted", one(4, 1, 12));
-    shown(b"set 0, which stands for 4: the same", one(0, 1, 12));
-    shown(b"set 9", one(9, 1, 12));
-    show::heading(
-        b"response, f and g of the set's counts, masks zero, list 0, 1, 2, .., words zero",
-    );
-}
-
-fn each_set() {
-    for set in 1..Set::LAST + 1 {
-        own(set, set);
+    // f = 1 and g = 0, with the list of set 1.
+    fn thin(set: u32) -> Case {
+        Case {
+            set,
+            f: shape(1, 0),
+            g: shape(0, 0),
+            words: 12,
+            ..Case::of(1)
+        }
     }
 }
 
+pub fn run(rt: &impl Print) -> io::Result<()> {
+    thin(rt)?;
+    println!(rt;
+        "response, f and g of the set's counts, masks zero, list 0, 1, 2, .., words zero"
+    )?;
+    for set in 1..=Set::LAST {
+        own(rt, set, set)?;
+    }
+    for (set, of) in [(0, 4), (0, 1), (8, 4), (4, 8)] {
+        own(rt, set, of)?;
+    }
+    unequal(rt)?;
+    counts(rt)?;
+    faults(rt)
+}
+
+// f = 1, g = 0, a = 1: refused before the draw. Its walk is in response_points.
+fn thin(rt: &impl Print) -> io::Result<()> {
+    let none = Case {
+        words: 0,
+        ..Case::thin(1)
+    };
+    println!(rt; "response, f = 1, g = 0, a = 1, masks zero, list 0 to 22, words zero")?;
+    shown(rt, "set 1, thresholds 1, twelve words", Case::thin(1))?;
+    shown(rt, "set 2, the same", Case::thin(2))?;
+    shown(rt, "eleven words", Case { words: 11, ..none })?;
+    shown(
+        rt,
+        "thresholds 0, one word",
+        Case {
+            threshold: 0,
+            words: 1,
+            ..none
+        },
+    )?;
+    shown(rt, "no words", none)?;
+    shown(rt, "set 4: 39 places are wanted", Case::thin(4))?;
+    shown(rt, "set 0, which stands for 4: the same", Case::thin(0))?;
+    shown(rt, "set 9", Case::thin(9))?;
+    Ok(())
+}
+
 // A key and a list of a set, lent to a call on a set: with enough words, one too few, either sign bit, and thresholds that nothing passes.
-fn own(set: u32, s: u32) {
-    let f = test_keys::shape_of(s, true);
-    let g = test_keys::shape_of(s, false);
-    show::number_after(b"  key and list of set ", s as u64);
-    show::number_after(b", lent to set ", set as u64);
-    show::heading(b"");
-    let r = shown(
-        b"  sign bit 0",
-        keyed(set, s, f, g, 0, 0, false, 1, 90, NONE),
-    );
+fn own(rt: &impl Print, set: u32, of: u32) -> io::Result<()> {
+    let own = Case {
+        set,
+        ..Case::of(of)
+    };
+    println!(rt; "  key and list of set {of}, lent to set {set}")?;
+    let response = shown(rt, "  sign bit 0", own)?;
+    let fewer = response.words.saturating_sub(1) as usize;
+    shown(rt, "  sign bit 1", Case { sign: true, ..own })?;
     shown(
-        b"  sign bit 1",
-        keyed(set, s, f, g, 0, 0, true, 1, 90, NONE),
-    );
+        rt,
+        "  a word fewer than it took",
+        Case {
+            words: fewer,
+            ..own
+        },
+    )?;
     shown(
-        b"  a word fewer than it took",
-        keyed(set, s, f, g, 0, 0, false, 1, less(r.words), NONE),
-    );
-    shown(
-        b"  thresholds 0, one word",
-        keyed(set, s, f, g, 0, 0, false, 0, 1, NONE),
-    );
+        rt,
+        "  thresholds 0, one word",
+        Case {
+            threshold: 0,
+            words: 1,
+            ..own
+        },
+    )?;
+    Ok(())
 }
 
 // The trials are of unequal numbers, of 9 and 5 set places for set 3 and of 7 and 9 for set 4: exchanged, the seventh word would fall to the second of set 3, and
 // the eighth to the first of set 4.
-fn unequal() {
-    show::heading(b"the same, thresholds 1, two words not zero");
+fn unequal(rt: &impl Print) -> io::Result<()> {
+    println!(rt; "the same, thresholds 1, two words not zero")?;
     shown(
-        b"set 3, the seventh and the eighth word 1: the first trial fails",
-        odd(3, 6),
-    );
+        rt,
+        "set 3, the seventh and the eighth word 1: the first trial fails",
+        Case {
+            odd: Some(6),
+            ..Case::of(3)
+        },
+    )?;
     shown(
-        b"set 4, the eighth and the ninth word 1: the second trial fails and is tried again",
-        odd(4, 7),
-    );
+        rt,
+        "set 4, the eighth and the ninth word 1: the second trial fails and is tried again",
+        Case {
+            odd: Some(7),
+            ..Case::of(4)
+        },
+    )?;
+    Ok(())
 }
 
-fn odd(set: u32, place: usize) -> Case {
-    let f = test_keys::shape_of(set, true);
-    let g = test_keys::shape_of(set, false);
-    keyed(set, set, f, g, 0, 0, false, 1, 90, place)
-}
-
-fn counts() {
-    show::heading(b"response, other counts, a = (2g + 1) / f");
-    other(b"set 1, f 155 and 0", 1, 155, 0, 154, 0);
-    other(b"set 1, f 153 and 0", 1, 153, 0, 154, 0);
-    other(b"set 1, g 155 and 0", 1, 154, 0, 155, 0);
-    other(b"set 1, g 153 and 0", 1, 154, 0, 153, 0);
-    other(b"set 2, f 152 and 1", 2, 152, 1, 154, 0);
-    other(b"set 3, g 218 and 15", 3, 216, 16, 218, 15);
-    other(b"set 4, f 230 and 32", 4, 230, 32, 231, 31);
-    other(b"set 4, the counts of set 3", 4, 216, 16, 216, 16);
+fn counts(rt: &impl Print) -> io::Result<()> {
+    println!(rt; "response, other counts, a = (2g + 1) / f")?;
+    for (text, set, f, g) in [
+        ("set 1, f 155 and 0", 1, shape(155, 0), shape(154, 0)),
+        ("set 1, f 153 and 0", 1, shape(153, 0), shape(154, 0)),
+        ("set 1, g 155 and 0", 1, shape(154, 0), shape(155, 0)),
+        ("set 1, g 153 and 0", 1, shape(154, 0), shape(153, 0)),
+        ("set 2, f 152 and 1", 2, shape(152, 1), shape(154, 0)),
+        ("set 3, g 218 and 15", 3, shape(216, 16), shape(218, 15)),
+        ("set 4, f 230 and 32", 4, shape(230, 32), shape(231, 31)),
+        (
+            "set 4, the counts of set 3",
+            4,
+            shape(216, 16),
+            shape(216, 16),
+        ),
+    ] {
+        shown(
+            rt,
+            text,
+            Case {
+                f,
+                g,
+                ..Case::of(set)
+            },
+        )?;
+    }
+    Ok(())
 }
 
 // Several faults at once: the first in the order 4, 5, 15, 6. a is one more than it should be at place 511.
-fn faults() {
-    let f = test_keys::shape_of(1, true);
-    let g = test_keys::shape_of(1, false);
-    let thin = shape(1, 0);
-    show::heading(b"response, several faults");
-    shown(
-        b"a mask of 4097, list, counts, relation",
-        keyed(1, 3, thin, g, 1, 4097, false, 1, 90, NONE),
-    );
-    shown(
-        b"list, counts, relation",
-        keyed(1, 3, thin, g, 1, 0, false, 1, 90, NONE),
-    );
-    shown(
-        b"counts, relation",
-        keyed(1, 1, thin, g, 1, 0, false, 1, 90, NONE),
-    );
-    shown(b"relation", keyed(1, 1, f, g, 1, 0, false, 1, 90, NONE));
-}
-
-fn one(set: u32, threshold: u64, words: usize) -> Case {
-    keyed(
-        set,
-        1,
-        shape(1, 0),
-        shape(0, 0),
-        0,
-        0,
-        false,
-        threshold,
-        words,
-        NONE,
-    )
-}
-
-fn other(text: &[u8], set: u32, f_ones: usize, f_twos: usize, g_ones: usize, g_twos: usize) {
-    shown(
-        text,
-        keyed(
-            set,
-            set,
-            shape(f_ones, f_twos),
-            shape(g_ones, g_twos),
-            0,
-            0,
-            false,
-            1,
-            90,
-            NONE,
-        ),
-    );
+fn faults(rt: &impl Print) -> io::Result<()> {
+    let relation = Case {
+        more: 1,
+        ..Case::of(1)
+    };
+    let counts = Case {
+        f: shape(1, 0),
+        ..relation
+    };
+    let list = Case {
+        list_of: 3,
+        ..counts
+    };
+    let mask = Case { mask: 4097, ..list };
+    println!(rt; "response, several faults")?;
+    shown(rt, "a mask of 4097, list, counts, relation", mask)?;
+    shown(rt, "list, counts, relation", list)?;
+    shown(rt, "counts, relation", counts)?;
+    shown(rt, "relation", relation)?;
+    Ok(())
 }
 
 fn shape(ones: usize, twos: usize) -> Shape {
@@ -181,74 +215,36 @@ fn shape(ones: usize, twos: usize) -> Shape {
     }
 }
 
-fn keyed(
-    set: u32,
-    list_of: u32,
-    f: Shape,
-    g: Shape,
-    more: u16,
-    mask: i16,
-    sign: bool,
-    threshold: u64,
-    words: usize,
-    odd: usize,
-) -> Case {
-    Case {
-        set,
-        list_of,
-        f,
-        g,
-        more,
-        mask,
-        sign,
-        threshold,
-        words,
-        odd,
-    }
-}
-
-// Ninety words of 0, but for a 1 at a place and at the next.
-fn words_of(odd: usize) -> [u64; 90]
-    ensures { length result ≡ 90 }
-{
-    let mut words = [0u64; 90];
-    if odd < 89 {
-        words[odd] = 1;
-        words[odd + 1] = 1;
-    }
-    words
-}
-
-fn less(words: u64) -> usize {
-    if words == 0 { 0 } else { (words - 1) as usize }
-}
-
-fn shown(text: &[u8], c: Case) -> Response {
+fn shown(rt: &impl Print, text: &str, case: Case) -> io::Result<Response> {
     let mut z1 = [show::OLD_ENTRY; Set::DIMENSION];
-    let mut z2 = [99i8; Set::DIMENSION];
-    let r = responded(c, &mut z1, &mut z2);
-    let mut dagger = [0i16; Set::DIMENSION];
-    vectors::widen(&z2, &mut dagger);
-    show::response(text, r, &z1, &dagger);
-    r
+    let mut z2 = [show::OLD_DAGGER; Set::DIMENSION];
+    let response = responded(case, &mut z1, &mut z2);
+    println!(rt;
+        "  {text}: {}",
+        Responded {
+            response,
+            z1: &z1,
+            z2: &z2
+        }
+    )?;
+    Ok(response)
 }
 
-fn responded(c: Case, z1: &mut [i16], z2: &mut [i8]) -> Response {
-    let f = test_keys::polynomial(c.f);
-    let g = test_keys::polynomial(c.g);
+fn responded(case: Case, z1: &mut [i16], z2: &mut [i8]) -> Response {
+    let f = test_keys::polynomial(case.f);
+    let g = test_keys::polynomial(case.g);
     let mut a = test_keys::public_key(&f, &g);
-    let mut y1 = [0i16; Set::DIMENSION];
-    let y2 = [0i16; Set::DIMENSION];
+    let mut y1 = [0; Set::DIMENSION];
+    let y2 = [0; Set::DIMENSION];
     let places = rows::places(0, 0);
-    let kappa = bursztok::bursztok_kappa(c.list_of) as usize;
-    let list = lending::first_whole(&places, kappa);
-    let thresholds = [c.threshold; Set::PLACES];
-    let words = words_of(c.odd);
-    a[511] = a[511].wrapping_add(c.more);
-    let mask = c.mask;
-    y1[511] = mask;
-    bursztok::bursztok_respond(
-        c.set,
+    let list = first(&places, bursztok_kappa(case.list_of) as usize);
+    let thresholds = [case.threshold; Set::PLACES];
+    let words = words_of(case.odd);
+    a[511] = a[511].wrapping_add(case.more);
+    y1[511] = case.mask;
+    // Thirteen arguments: C's call.
+    bursztok_respond(
+        case.set,
         KEY,
         &f,
         &g,
@@ -256,10 +252,21 @@ fn responded(c: Case, z1: &mut [i16], z2: &mut [i8]) -> Response {
         &y1,
         &y2,
         list,
-        c.sign,
+        case.sign,
         &thresholds,
-        lending::first_long(&words, c.words),
+        first(&words, case.words),
         z1,
         z2,
     )
+}
+
+// Words of 0, but for a 1 at a place and at the next.
+fn words_of(odd: Option<usize>) -> [u64; WORDS] {
+    let mut words = [0; WORDS];
+    if let Some(place) = odd {
+        for word in words.iter_mut().skip(place).take(2) {
+            *word = 1;
+        }
+    }
+    words
 }

@@ -1,6 +1,6 @@
 // For the program replay: the second program's vectors lie in slots; what a call was asked, and whether it left what is wanted.
 #![tactic(auto)]
 
-pub mod left;
+pub mod reader;
 pub mod slots;
 pub mod wanted;

@@ -1,114 +1,171 @@
-// The eighteen slots. They lie in one memory of bytes: slot s has the 2,048 bytes from 2,048 s on, and its length is the number in the bytes 2 s and 2 s + 1.
-ghost use Rattle.std.specs.Prelude.{◌≡◌, ◌≤◌, ◌<◌, length};
+// The eighteen slots, each a row of bytes and a length.
+ghost use Rattle.std.specs.Prelude.{◌≡◌, ◌<◌, ℕ, length, take, replicate, slice_set, map, IfNone};
 
+use std::array;
+
+// The bytes of a slot.
 pub const ROOM: usize = 2048;
-
-// The memory's bytes: slot 0 has the lengths.
-pub const BYTES: usize = 38912;
 
 // As many entries as any slot has, but for those of 64-bit numbers.
 pub const ENTRIES: usize = 520;
 
-pub fn length_of(memory: &[u8], slot: usize) -> usize
-    requires { (length memory.now ≡ 38912) × (slot < 19) }
-{
-    byte_codes::number_at(memory, 2 * slot) as usize
+const SLOTS: usize = 18;
+
+#[derive(Clone, Copy)]
+pub enum Slot {
+    F,
+    G,
+    A,
+    Y1,
+    Y2,
+    List,
+    HashedList,
+    Thresholds,
+    Words,
+    Z1,
+    Z2,
+    Record,
+    WantedRounded,
+    WantedZ1,
+    WantedZ2,
+    WantedList,
+    WantedRecord,
+    WantedRests,
 }
 
-// The first bytes of a slot.
-pub fn front(memory: &[u8], slot: usize, count: usize) -> &[u8]
-    requires { (length memory.now ≡ 38912) × (slot < 19) × (count ≤ 2048) }
-    ensures { length result.now ≡ count }
-{
-    let from = ROOM * slot;
-    let to = from + count;
-    &memory[from..to]
-}
+#[derive(Clone, Copy, Debug, PartialEq, Eq)]
+pub struct NoSlot;
 
-// ---- a slot's entries, and zeros after them
+// By its number in the file, 1 to 18.
+impl TryFrom<u8> for Slot {
+    type Error = NoSlot;
 
-pub fn narrow(memory: &[u8], slot: usize) -> [i8; ENTRIES]
-    requires { (length memory.now ≡ 38912) × (slot < 19) }
-    ensures { length result ≡ 520 }
-{
-    let mut row = [0i8; ENTRIES];
-    byte_codes::unpack_narrow(front(memory, slot, 520), &mut row);
-    row
-}
-
-pub fn wide(memory: &[u8], slot: usize) -> [i16; ENTRIES]
-    requires { (length memory.now ≡ 38912) × (slot < 19) }
-    ensures { length result ≡ 520 }
-{
-    let mut row = [0i16; ENTRIES];
-    byte_codes::unpack_wide(front(memory, slot, 1040), &mut row);
-    row
-}
-
-pub fn whole(memory: &[u8], slot: usize) -> [u16; ENTRIES]
-    requires { (length memory.now ≡ 38912) × (slot < 19) }
-    ensures { length result ≡ 520 }
-{
-    let mut row = [0u16; ENTRIES];
-    byte_codes::unpack_places(front(memory, slot, 1040), &mut row);
-    row
-}
-
-pub fn long(memory: &[u8], slot: usize) -> [u64; 64]
-    requires { (length memory.now ≡ 38912) × (slot < 19) }
-    ensures { length result ≡ 64 }
-{
-    let mut row = [0u64; 64];
-    let held = front(memory, slot, ROOM);
-    for i in 0..64 {
-        row[i] = long_at(held, 8 * i);
+    fn try_from(number: u8) -> Result<Slot, NoSlot> {
+        match number {
+            1 => Ok(Slot::F),
+            2 => Ok(Slot::G),
+            3 => Ok(Slot::A),
+            4 => Ok(Slot::Y1),
+            5 => Ok(Slot::Y2),
+            6 => Ok(Slot::List),
+            7 => Ok(Slot::HashedList),
+            8 => Ok(Slot::Thresholds),
+            9 => Ok(Slot::Words),
+            10 => Ok(Slot::Z1),
+            11 => Ok(Slot::Z2),
+            12 => Ok(Slot::Record),
+            13 => Ok(Slot::WantedRounded),
+            14 => Ok(Slot::WantedZ1),
+            15 => Ok(Slot::WantedZ2),
+            16 => Ok(Slot::WantedList),
+            17 => Ok(Slot::WantedRecord),
+            18 => Ok(Slot::WantedRests),
+            _ => Err(NoSlot),
+        }
     }
-    row
 }
 
-// The number whose eight bytes stand from a place on.
-fn long_at(bytes: &[u8], at: usize) -> u64
-    requires { (length bytes.now ≡ 2048) × (at < 512) }
-{
-    let low = pair_at(bytes, at);
-    let high = pair_at(bytes, at + 4);
-    low + 4294967296 * high
+impl Slot {
+    fn index(self) -> usize
+        ensures { result < 18 }
+    {
+        self as usize
+    }
 }
 
-fn pair_at(bytes: &[u8], at: usize) -> u64
-    requires { (length bytes.now ≡ 2048) × (at < 1024) }
-    ensures { result < 4294967296 }
-{
-    let low = byte_codes::number_at(bytes, at) as u64;
-    let high = byte_codes::number_at(bytes, at + 2) as u64;
-    low + 65536 * high
+#[derive(Clone, Copy)]
+pub struct Row {
+    pub bytes: [u8; ROOM],
+    // Of entries.
+    pub length: u16,
 }
 
-// ---- rows as bytes
-
-pub fn packed_narrow(row: &[i8]) -> [u8; 520]
-    requires { length row.now ≡ 520 }
-    ensures { length result ≡ 520 }
-{
-    let mut bytes = [0u8; 520];
-    byte_codes::pack_narrow(row, &mut bytes);
-    bytes
+impl Row {
+    fn patch(&mut self, from: usize, bytes: &[u8]) -> Option<()>
+        ensures length { self.new.length ≡ self.old.length }
+        ensures none { IfNone result (self.new ≡ self.old) }
+    {
+        let end = from.checked_add(bytes.len())?;
+        if ROOM < end {
+            return None;
+        }
+        self.bytes[from..end].copy_from_slice(bytes);
+        Some(())
+    }
 }
 
-pub fn packed_wide(row: &[i16]) -> [u8; 1040]
-    requires { length row.now ≡ 520 }
-    ensures { length result ≡ 1040 }
-{
-    let mut bytes = [0u8; 1040];
-    byte_codes::pack_wide(row, &mut bytes);
-    bytes
+#[derive(Drop)]
+pub struct Slots {
+    pub rows: [Row; SLOTS],
 }
 
-pub fn packed_whole(row: &[u16]) -> [u8; 1040]
-    requires { length row.now ≡ 520 }
-    ensures { length result ≡ 1040 }
-{
-    let mut bytes = [0u8; 1040];
-    byte_codes::pack_places(row, &mut bytes);
-    bytes
+impl Slots {
+    // Zeros, at length 0.
+    pub fn new() -> Slots
+        ensures { result.rows ≡ replicate 18 (record { bytes = replicate 2048 0; length = 0 }) }
+    {
+        let row = Row {
+            bytes: [0; ROOM],
+            length: 0,
+        };
+        Slots { rows: [row; SLOTS] }
+    }
+
+    pub fn set_length(&mut self, slot: Slot, length: u16)
+        ensures bytes { map (λ row. row.bytes) self.new.rows ≡ map (λ row. row.bytes) self.old.rows }
+        ensures lengths { (i : ℕ) × (map (λ row. row.length) self.new.rows ≡ slice_set (map (λ row. row.length) self.old.rows) i length) }
+    {
+        self.rows[slot.index()].length = length;
+    }
+
+    // Bytes go to the slot's, from a place on. `None` where there is no room for them.
+    pub fn patch(&mut self, slot: Slot, from: usize, bytes: &[u8]) -> Option<()>
+        ensures lengths { map (λ row. row.length) self.new.rows ≡ map (λ row. row.length) self.old.rows }
+        ensures none { IfNone result (self.new.rows ≡ self.old.rows) }
+    {
+        self.rows[slot.index()].patch(from, bytes)
+    }
+
+    // The first entries of a slot's row, as many as its length says, or all.
+    pub fn lent<'a, T>(&self, slot: Slot, row: &'a [T]) -> &'a [T]
+        ensures { (n : ℕ) × (result.now ≡ take n row.now) }
+    {
+        let length = usize::from(self.rows[slot.index()].length);
+        &row[..length.min(row.len())]
+    }
+
+    // All bytes of a slot.
+    pub fn room(&self, slot: Slot) -> &[u8]
+        ensures { length result.now ≡ 2048 }
+    {
+        &self.rows[slot.index()].bytes
+    }
+
+    // ---- a slot's row, past its length too
+    // Four, not one: over an `F: Fn([u8; N]) -> T` no proof is made (a bound names a const parameter).
+
+    pub fn narrow(&self, slot: Slot) -> [i8; ENTRIES] {
+        let bytes = self.room(slot);
+        array::from_fn(|i| bytes[i].cast_signed())
+    }
+
+    pub fn wide(&self, slot: Slot) -> [i16; ENTRIES] {
+        let (entries, _) = self.room(slot).as_chunks::<2>();
+        array::from_fn(|i| i16::from_le_bytes(entries[i]))
+    }
+
+    pub fn whole(&self, slot: Slot) -> [u16; ENTRIES] {
+        let (entries, _) = self.room(slot).as_chunks::<2>();
+        array::from_fn(|i| u16::from_le_bytes(entries[i]))
+    }
+
+    pub fn long(&self, slot: Slot) -> [u64; 64] {
+        // By a loop: over these 64, `from_fn`'s proof that i is below the length stops at a limit of `grind`.
+        let mut row = [0; 64];
+        let (entries, _) = self.room(slot).as_chunks();
+        for (entry, bytes) in row.iter_mut().zip(entries) {
+            *entry = u64::from_le_bytes(*bytes);
+        }
+        row
+    }
 }

@@ -1,19 +1,20 @@
 // What a call was asked, and what is wanted of it.
-ghost use Rattle.std.specs.Prelude.{◌≡◌, ◌<◌, length};
+ghost use Rattle.std.specs.Prelude.{◌≡◌, ◌<◌, ◌≤◌, ◌↔◌, false, length, take, IsTrue};
+ghost use Rattle.std.specs.List.{starts_with};
 
-use crate::slots;
+use crate::reader::Reader;
 
-// The 36 bytes of a call: the set, then what is wanted, then the lengths of the outputs that are lent, the sign bit, what the outputs hold before, the key number
-// that is lent and the one that is wanted.
+// The set, then what is wanted, then the lengths of the outputs that are lent, the sign bit, what the outputs hold before, the key number that is lent and the one
+// that is wanted.
 #[derive(Clone, Copy)]
 pub struct Asked {
     pub set: u32,
-    pub number: u32,
-    pub stated: u32,
-    pub place: u32,
-    pub words: u64,
-    pub start: u64,
-    pub length: u64,
+    pub number: u8,
+    pub stated: u8,
+    pub place: u16,
+    pub words: u16,
+    pub start: u16,
+    pub length: u16,
     pub rounded: u16,
     pub z1: u16,
     pub z2: u16,
@@ -26,74 +27,59 @@ pub struct Asked {
     pub back: u32,
 }
 
-pub fn asked_in(bytes: &[u8]) -> Asked
-    requires { length bytes.now ≡ 36 }
-{
-    Asked {
-        set: byte_codes::number32_in(&bytes[0..4]),
-        number: wide(bytes[4]),
-        stated: wide(bytes[5]),
-        place: byte_codes::number_at(bytes, 6) as u32,
-        words: byte_codes::number_at(bytes, 8) as u64,
-        start: byte_codes::number_at(bytes, 10) as u64,
-        length: byte_codes::number_at(bytes, 12) as u64,
-        rounded: byte_codes::number_at(bytes, 14),
-        z1: byte_codes::number_at(bytes, 16),
-        z2: byte_codes::number_at(bytes, 18),
-        list: byte_codes::number_at(bytes, 20),
-        output: byte_codes::number_at(bytes, 22),
-        rests: byte_codes::number_at(bytes, 24),
-        sign: bytes[26] == 1,
-        fill: bytes[27],
-        key: byte_codes::number32_in(&bytes[28..32]),
-        back: byte_codes::number32_in(&bytes[32..36]),
+impl Asked {
+    // The first 28 bytes of a call: no key number is lent, and 0 is wanted.
+    pub fn before_keys(file: &mut Reader) -> Option<Asked> {
+        Some(Asked {
+            set: file.u32()?,
+            number: file.u8()?,
+            stated: file.u8()?,
+            place: file.u16()?,
+            words: file.u16()?,
+            start: file.u16()?,
+            length: file.u16()?,
+            rounded: file.u16()?,
+            z1: file.u16()?,
+            z2: file.u16()?,
+            list: file.u16()?,
+            output: file.u16()?,
+            rests: file.u16()?,
+            sign: file.u8()? == 1,
+            fill: file.u8()?,
+            key: 0,
+            back: 0,
+        })
     }
-}
 
-fn wide(x: u8) -> u32 {
-    x as u32
-}
+    // All 36.
+    pub fn with_keys(file: &mut Reader) -> Option<Asked> {
+        let asked = Asked::before_keys(file)?;
+        Some(Asked {
+            key: file.u32()?,
+            back: file.u32()?,
+            ..asked
+        })
+    }
 
-pub fn is_wanted(number: u32, place: u32, k: Asked) -> bool {
-    if number == k.number {
-        place == k.place
-    } else {
-        false
+    pub fn wants(&self, number: u32, place: u32) -> bool
+        ensures { IsTrue result ↔ ((number ≡ self.now.number) × (place ≡ self.now.place)) }
+    {
+        number == u32::from(self.number) && place == u32::from(self.place)
     }
-}
 
-// An output: the wanted slot where the wanted number is 0, and else what it held before.
-pub fn is_left(
-    memory: &[u8],
-    slot: usize,
-    k: Asked,
-    output: &[u8],
-    old: &[u8],
-    count: usize,
-) -> bool
-    requires { (length memory.now ≡ 38912) × (slot < 19) }
-{
-    if k.number == 0 {
-        same(slots::front(memory, slot, slots::ROOM), output, count)
-    } else {
-        same(old, output, count)
-    }
-}
-
-// Whether the first bytes of two rows are the same, and both have so many.
-fn same(x: &[u8], y: &[u8], count: usize) -> bool {
-    if x.len() < count {
-        return false;
-    }
-    if y.len() < count {
-        return false;
-    }
-    let mut i = 0;
-    while i < count {
-        if x[i] != y[i] {
+    // Whether the entries that were lent of an output are the wanted ones where the wanted number is 0, and else what they were.
+    pub fn is_left<T: PartialEq>(&self, out: &[T], lent: u16, wanted: &[T], old: &[T]) -> bool
+        ensures short { length out.now < lent → result ≡ false }
+        ensures as_wanted { lent ≤ length out.now → self.now.number ≡ 0 → result ≡ starts_with T.eq wanted.now (take lent out.now) }
+        ensures as_before { lent ≤ length out.now → 0 < self.now.number → result ≡ starts_with T.eq old.now (take lent out.now) }
+    {
+        let Some(left) = out.get(..usize::from(lent)) else {
             return false;
+        };
+        if self.number == 0 {
+            wanted.starts_with(left)
+        } else {
+            old.starts_with(left)
         }
-        i += 1;
     }
-    true
 }

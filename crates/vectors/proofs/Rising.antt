@@ -1,48 +1,21 @@
 -- Lists that rise, and the places of a proper list. Assumes nothing.
-use mathlib.Core.Path.{◌≡◌, refl, sym, ◌∙◌, ap}
-use mathlib.Core.Bool.{true, false, ◌&&◌}
+use mathlib.Core.Path.{◌≡◌, refl, sym}
+use mathlib.Core.Bool.{Bool, true, false, ◌&&◌}
 use mathlib.Core.List.{List, [], ◌∷◌}
-use Prim.Native.Nat.{ℕ, zero, suc, ◌+◌, ◌<◌, ◌≤◌}
+use Prim.Native.Nat.{ℕ, zero, suc, ◌+◌, ◌<◌}
 use native.Mathlib.Nat.{not-suc-le-zero, le_of_suc-le-suc}
 use native.Mathlib.Numerals.{add-one}
 use native.Mathlib.Omega.{arith}
-use borrow.Author.Tests.{ltb-true, eqb-true}
+use borrow.Author.Tests.{ltb-true, ltb-false, eqb-true}
 use lib.Dec.{ltb, eqb}
-use lib.ListN.{length, get_or, drop, length-drop}
-use lib.Seq.{drop-cons}
+use lib.ListN.{length, get_or}
+use Rattle.std.specs.List.{IsAllAdjacentAnswer, AllAdjacentBelow}
 use Rattle.laws.specs.Lists.{every}
 use Rattle.laws.proofs.Chain.{and_left, and_right}
 use Rattle.laws.proofs.Entries.{every_at}
 use Rattle.sets.specs.declared.Set.{Set}
 use Rattle.sets.specs.Numbers.{dimension, kappa_of}
 use Rattle.vectors.specs.Places.{is_place, rising, proper_list}
-
-short : (l : List ℕ) → length l ≤ 1 → rising l ≡ true
-unfolding rising
-short [] h = refl
-short (i ∷ []) h = refl
-short (i ∷ j ∷ l) h = absurd (much (length l) h)
-  where
-    much : (n : ℕ) → suc (suc n) ≤ 1 → ⊥
-    much n h = omega arith
-
--- ---- a scan of neighbours: whether the whole rises is whether what is left does
-module _ (l : List ℕ) (i : ℕ) (so : rising l ≡ rising (drop i l)) where
-  front : i + 1 < length l → rising l ≡ ltb (get_or l i 0) (get_or l (i + 1) 0) && rising (drop (i + 1) l)
-  unfolding rising
-  front h =
-      let h₀ : i < length l = omega arith in
-      let h₁ : suc i < length l = omega arith in
-      so ∙ ap rising (drop-cons l i 0 h₀) ∙ rw (add-one i, drop-cons l (suc i) 0 h₁)
-
-  pub rise_stops : i + 1 < length l → ltb (get_or l i 0) (get_or l (i + 1) 0) ≡ false → false ≡ rising l
-  rise_stops h e = sym (front h ∙ rw e)
-
-  pub rise_passes : i + 1 < length l → ltb (get_or l i 0) (get_or l (i + 1) 0) ≡ true → rising l ≡ rising (drop (i + 1) l)
-  rise_passes h e = front h ∙ rw e
-
-  pub rise_ends : length l ≤ i + 1 → true ≡ rising l
-  rise_ends h = sym (so ∙ short (drop i l) (omega (arith, length-drop i l)))
 
 -- ---- the places of a list that rises
 pub rising_tail : (i : ℕ) (l : List ℕ) → rising (i ∷ l) ≡ true → rising l ≡ true
@@ -62,6 +35,27 @@ rising_at [] e j k g h = absurd (not-suc-le-zero h)
 rising_at (i ∷ l) e j zero g h = absurd (not-suc-le-zero g)
 rising_at (i ∷ l) e zero (suc k) g h = above_first i l e k (le_of_suc-le-suc h)
 rising_at (i ∷ l) e (suc j) (suc k) g h = rising_at l (rising_tail i l e) j k (le_of_suc-le-suc g) (le_of_suc-le-suc h)
+
+-- ---- what a scan of neighbours answered
+each_rises : (l : List ℕ) → AllAdjacentBelow (λ x y. true ≡ ltb x y) l (length l) → true ≡ rising l
+unfolding rising
+each_rises [] h = refl
+each_rises (i ∷ []) h = refl
+each_rises (i ∷ j ∷ l) h =
+    let rest : (k d : ℕ) → k + 1 < length (j ∷ l) → true ≡ ltb (get_or (j ∷ l) k d) (get_or (j ∷ l) (k + 1) d) =
+    λ k d m. let g : true ≡ ltb (get_or (j ∷ l) k d) (get_or (i ∷ j ∷ l) (suc k + 1) d) = h (suc k) d (omega arith) in
+    rw add-one (rw add-one at g) in
+    rw (← h 0 0 (omega arith)) (each_rises (j ∷ l) rest)
+
+pub rises_so : (l : List ℕ) (r : Bool) → IsAllAdjacentAnswer (λ x y b. b ≡ ltb x y) l r → r ≡ rising l
+rises_so l true h = each_rises l h
+rises_so l false h =
+    let still : (b : Bool) → rising l ≡ b → false ≡ b =
+    λ (b : Bool). elim b as (λ (b : Bool). rising l ≡ b → false ≡ b) [ true ↦ λ e. absurd (fails e) | false ↦ λ e. refl ] in
+    still (rising l) refl
+  where
+    fails : rising l ≡ true → ⊥
+    fails e = omega (arith, ltb-false _ _ (sym (h.2 0)), rising_at l e h.0 (h.0 + 1) (omega arith) h.1)
 
 -- ---- a proper list
 module _ (s : Set) (l : List ℕ) (proper : proper_list s l ≡ true) where

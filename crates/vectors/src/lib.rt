@@ -1,47 +1,25 @@
 // Vectors of whole numbers, and the form of a challenge list (01, "Key, commitment, response, rebuild").
-// A vector of bytes is widened first: everything else is for i16 alone. Sums and copies are loops with a fixed count and no branch, range tests loops that
-// are not left early, which the compiler turns into instructions on several entries at a time.
+// A vector of bytes is widened first: everything else is for i16 alone. Sums are loops without a branch, range tests folds that are not left early: the
+// compiler turns both into instructions on several entries at a time. Where an output is written the other slice goes by the index: after another adapter of
+// `iter_mut` than `enumerate` a proof knows nothing of the values.
 #![tactic(auto)]
 
 ghost use Rattle.std.specs.Prelude.{◌≡◌, true, ◌&&◌, map, ℕ, ◌+◌, ◌*◌, ◌^◌, ◌<◌, pos, neg_ℤ, nat_abs, ◌+ℤ◌, ◌-ℤ◌, ◌*ℤ◌, length, get_or};
+ghost use Rattle.std.specs.List.{list_all};
 ghost use Rattle.laws.specs.Lists.{every, zip_with};
 ghost use Rattle.sets.specs.Numbers.{dimension};
 ghost use Rattle.vectors.specs.Vectors.{is_dimension, within, below, squares, inner, sizes, mirrored};
 ghost use Rattle.vectors.specs.Places.{rising, proper_list};
 
-use sets::Set;
+use sets::{Polynomial, Set};
 
 // ---- lengths
 
-// Whether three, four or five lengths are 512.
-pub fn three_sized(x: usize, y: usize, z: usize) -> bool
-    ensures { result ≡ is_dimension x && (is_dimension y && is_dimension z) }
+// Whether each of some lengths is 512.
+pub fn all_sized(lengths: &[usize]) -> bool
+    ensures { result ≡ list_all is_dimension lengths.now }
 {
-    if x != Set::DIMENSION {
-        return false;
-    }
-    if y != Set::DIMENSION {
-        return false;
-    }
-    z == Set::DIMENSION
-}
-
-pub fn four_sized(w: usize, x: usize, y: usize, z: usize) -> bool
-    ensures { result ≡ is_dimension w && (is_dimension x && (is_dimension y && is_dimension z)) }
-{
-    if w != Set::DIMENSION {
-        return false;
-    }
-    three_sized(x, y, z)
-}
-
-pub fn five_sized(v: usize, w: usize, x: usize, y: usize, z: usize) -> bool
-    ensures { result ≡ is_dimension v && (is_dimension w && (is_dimension x && (is_dimension y && is_dimension z))) }
-{
-    if v != Set::DIMENSION {
-        return false;
-    }
-    four_sized(w, x, y, z)
+    lengths.iter().all(|length| *length == Set::DIMENSION)
 }
 
 // ---- the form of a list
@@ -50,26 +28,13 @@ pub fn five_sized(v: usize, w: usize, x: usize, y: usize, z: usize) -> bool
 pub fn is_proper(s: Set, list: &[u16]) -> bool
     ensures { result ≡ proper_list s list.now }
 {
-    if list.len() != s.kappa() {
-        return false;
-    }
-    if !is_rising(list) {
-        return false;
-    }
-    all_below(list, Set::DIMENSION as u16)
+    list.len() == s.kappa() && is_rising(list) && all_below(list, Set::DIMENSION as u16)
 }
 
 fn is_rising(list: &[u16]) -> bool
     ensures { result ≡ rising list.now }
 {
-    let mut i = 0;
-    while i + 1 < list.len() {
-        if list[i + 1] <= list[i] {
-            return false;
-        }
-        i += 1;
-    }
-    true
+    list.is_sorted_by(|place, next| *place < *next)
 }
 
 // ---- ranges
@@ -78,96 +43,44 @@ fn is_rising(list: &[u16]) -> bool
 pub fn all_below(a: &[u16], bound: u16) -> bool
     ensures { result ≡ every (below bound) a.now }
 {
-    let mut all = true;
-    let mut i = 0;
-    while i < a.len() {
-        if bound <= a[i] {
-            all = false;
-        }
-        i += 1;
-    }
-    all
+    a.iter().fold(true, |all, entry| all & (*entry < bound))
 }
 
 // Whether every entry lies in - bound .. bound.
 pub fn all_within(x: &[i16], bound: u32) -> bool
     ensures { result ≡ every (within bound) x.now }
 {
-    let mut all = true;
-    let mut i = 0;
-    while i < x.len() {
-        if bound < size(x[i]) {
-            all = false;
-        }
-        i += 1;
-    }
-    all
+    x.iter()
+        .fold(true, |all, entry| all & (size(*entry) <= bound))
 }
 
 // |x|, which is 2^15 for the least i16.
 pub fn size(x: i16) -> u32
     ensures { result ≡ nat_abs x }
 {
-    let wide = x as i32;
-    if wide < 0 {
-        (-wide) as u32
-    } else {
-        wide as u32
-    }
+    u32::from(x.unsigned_abs())
 }
 
-// ---- copies
+// ---- widening
 
 // The same numbers, 16 bits wide.
-pub fn widen(x: &[i8], out: &mut [i16])
-    requires { (length x.now ≡ dimension) × (length out.old ≡ dimension) }
+pub fn widen(x: &Polynomial<i8>, out: &mut Polynomial<i16>)
     ensures { out.new ≡ x.now }
 {
-    for i in 0..Set::DIMENSION {
-        out[i] = x[i] as i16;
-    }
-}
-
-pub fn copy(out: &mut [i16], x: &[i16])
-    requires { (length out.old ≡ dimension) × (length x.now ≡ dimension) }
-    ensures { out.new ≡ x.now }
-{
-    for i in 0..Set::DIMENSION {
-        out[i] = x[i];
-    }
-}
-
-pub fn copy_narrow(out: &mut [i8], x: &[i8])
-    requires { (length out.old ≡ dimension) × (length x.now ≡ dimension) }
-    ensures { out.new ≡ x.now }
-{
-    for i in 0..Set::DIMENSION {
-        out[i] = x[i];
-    }
-}
-
-// As many places as there are.
-pub fn copy_places(out: &mut [u16], x: &[u16])
-    requires { length out.old ≡ length x.now }
-    ensures { out.new ≡ x.now }
-{
-    let mut i = 0;
-    while i < x.len() {
-        out[i] = x[i];
-        i += 1;
+    for (i, entry) in out.iter_mut().enumerate() {
+        *entry = i16::from(x[i]);
     }
 }
 
 // ---- squared lengths and inner products
 
 // 512 squares of at most 2^30 each.
-pub fn squared_length(x: &[i16]) -> u64
-    requires { length x.now ≡ dimension }
+pub fn squared_length(x: &Polynomial<i16>) -> u64
     ensures { result ≡ squares x.now }
 {
     let mut sum: u64 = 0;
-    for i in 0..Set::DIMENSION {
-        sum += square(x[i]) as u64;
+    for &entry in x {
+        sum += u64::from(square(entry));
     }
     sum
 }
@@ -179,13 +92,13 @@ fn square(x: i16) -> u32
 }
 
 // What is summed so far is at most the sizes so far, so that it fits wherever all sizes together do.
-pub fn inner_product(a: &[i16], b: &[i16]) -> i32
-    requires { (length a.now ≡ dimension) × (length b.now ≡ dimension) × (sizes a.now b.now < 2 ^ 31) }
+pub fn inner_product(a: &Polynomial<i16>, b: &Polynomial<i16>) -> i32
+    requires { sizes a.now b.now < 2 ^ 31 }
     ensures { result ≡ inner a.now b.now }
 {
     let mut sum: i32 = 0;
-    for i in 0..Set::DIMENSION {
-        sum += product(a[i], b[i]);
+    for (&x, &y) in a.iter().zip(b) {
+        sum += product(x, y);
     }
     sum
 }
@@ -194,46 +107,47 @@ pub fn inner_product(a: &[i16], b: &[i16]) -> i32
 fn product(x: i16, y: i16) -> i32
     ensures { result ≡ x *ℤ y }
 {
-    (x as i32) * (y as i32)
+    i32::from(x) * i32::from(y)
 }
 
 // ---- columns x^i s
 
 // s behind its negative: the column x^i s is the part from 512 - i to 1024 - i.
-pub fn mirror(s: &[i16], out: &mut [i16])
-    requires { (length s.now ≡ dimension) × (length out.old ≡ 2 * dimension) × (every (within 32767) s.now ≡ true) }
+pub fn mirror(s: &Polynomial<i16>, out: &mut [i16; 2 * Set::DIMENSION])
+    requires { every (within 32767) s.now ≡ true }
     ensures { out.new ≡ mirrored s.now }
 {
-    negate(&mut out[..Set::DIMENSION], s);
-    copy(&mut out[Set::DIMENSION..], s);
+    let (front, behind) = out.split_at_mut(Set::DIMENSION);
+    negate(front, s);
+    behind.copy_from_slice(s);
 }
 
-// The negative of the least i16 would not fit.
-fn negate(out: &mut [i16], x: &[i16])
-    requires { (length out.old ≡ dimension) × (length x.now ≡ dimension) × (every (within 32767) x.now ≡ true) }
+// The negative of the least i16 would not fit. The output is a half of a doubled vector, no array.
+fn negate(out: &mut [i16], x: &Polynomial<i16>)
+    requires { (length out.old ≡ dimension) × (every (within 32767) x.now ≡ true) }
     ensures { out.new ≡ map neg_ℤ x.now }
 {
-    for i in 0..Set::DIMENSION {
-        out[i] = -x[i];
+    for (i, entry) in out.iter_mut().enumerate() {
+        *entry = -x[i];
     }
 }
 
-// v + c, in v's place.
-pub fn add_to(v: &mut [i16], c: &[i16])
-    requires { (length v.old ≡ dimension) × (length c.now ≡ dimension) × ((k : ℕ) → nat_abs (get_or v.old k (pos 0)) + nat_abs (get_or c.now k (pos 0)) < 32768) }
+// v + c, in v's place. Here and below c is a part of a doubled vector, no array.
+pub fn add_to(v: &mut Polynomial<i16>, c: &[i16])
+    requires { (length c.now ≡ dimension) × ((k : ℕ) → nat_abs (get_or v.old k (pos 0)) + nat_abs (get_or c.now k (pos 0)) < 32768) }
     ensures { v.new ≡ zip_with ◌+ℤ◌ v.old c.now }
 {
-    for i in 0..Set::DIMENSION {
-        v[i] = v[i] + c[i];
+    for (i, entry) in v.iter_mut().enumerate() {
+        *entry += c[i];
     }
 }
 
 // v - c, in v's place.
-pub fn subtract_from(v: &mut [i16], c: &[i16])
-    requires { (length v.old ≡ dimension) × (length c.now ≡ dimension) × ((k : ℕ) → nat_abs (get_or v.old k (pos 0)) + nat_abs (get_or c.now k (pos 0)) < 32768) }
+pub fn subtract_from(v: &mut Polynomial<i16>, c: &[i16])
+    requires { (length c.now ≡ dimension) × ((k : ℕ) → nat_abs (get_or v.old k (pos 0)) + nat_abs (get_or c.now k (pos 0)) < 32768) }
     ensures { v.new ≡ zip_with ◌-ℤ◌ v.old c.now }
 {
-    for i in 0..Set::DIMENSION {
-        v[i] = v[i] - c[i];
+    for (i, entry) in v.iter_mut().enumerate() {
+        *entry -= c[i];
     }
 }

@@ -1,19 +1,11 @@
-use mathlib.Core.Path.{sym, ap, ◌∙◌}
-use native.Mathlib.Omega.{arith}
-use lib.IntN.{pos}
-use lib.ListN.{length-map}
-use mir.Syntax.{w16}
-use Rattle.laws.proofs.Entries.{get_or-map}
-use Rattle.laws.proofs.Loops.{more}
-use borrow.Author.Rules.{rules}
-use Rattle.std.proofs.lemmas.Int.{to_z-of_z}
+use Rattle.std.proofs.Common.{ap, ◌∙◌, arith}
 use Rattle.byte_codes.specs.Bytes.{complement}
+use Rattle.bit_codes.proofs.Passes.{map_more}
 use Rattle.bit_codes.proofs.bits_all.Goals as goal
 
 pub loop-i-preserved : goal.loop-i-preserved
-loop-i-preserved c = (
-  omega arith,
-  more _ _ (length-map c.args.entries.now (complement c.args.width) ∙ sym c.requires.2) c.loop-i.invariant.1 0 _ (omega arith)
-      (c.bits_in.ensures ∙ ap (complement c.args.width) (to_z-of_z w16 _ (search rules))
-      ∙ sym (get_or-map (complement c.args.width) c.args.entries.now c.loop-i.i (pos 0) 0 (omega arith))),
-)
+loop-i-preserved g c =
+    let code = λ (z : g.row.T.Denot). complement c.args.width (g.T.Whole.value z) in (
+      omega arith,
+      map_more code c.args.entries.now c.args.out.now c.requires.2 c.index-entries-i.result c.bits.result c.loop-i-test.true (c.bits.ensures ∙ ap code c.index-entries-i.is) c.loop-i.invariant.1,
+    )

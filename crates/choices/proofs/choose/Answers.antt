@@ -1,4 +1,4 @@
-use mathlib.Core.Path.{◌≡◌, refl, sym, ◌∙◌, ap}
+use mathlib.Core.Path.{◌≡◌, sym, ◌∙◌, ap}
 use mathlib.Core.Bool.{true}
 use mathlib.Core.List.{List}
 use Prim.Native.Nat.{ℕ, ◌+◌, ◌-◌, ◌<◌}
@@ -11,7 +11,7 @@ use Rattle.laws.specs.Lists.{every}
 use Rattle.laws.proofs.Entries.{every_at}
 use Rattle.sets.specs.Numbers.{dimension}
 use Rattle.polynomials.specs.Product.{shift}
-use Rattle.polynomials.proofs.Shift.{shift_window}
+use Rattle.polynomials.proofs.Shift.{length_shift, shift_window}
 use Rattle.vectors.specs.Places.{is_place}
 use Rattle.vectors.specs.Vectors.{within, mirrored}
 use Rattle.vectors.proofs.Ranges.{within_at, within_of, within_wider}
@@ -36,46 +36,51 @@ small : (s1 s2 : List ℤ) → every (within 5) s1 ≡ true → every (within 5)
 small s1 s2 h j = record { first = within_at 5 s1 h; second = within_at 5 s2 j }
 
 pub mirror-requires : goal.mirror-requires
-mirror-requires c = (c.requires.s1_len.0, refl, within_wider 5 32767 c.args.s1.now (lit≤ tt) c.requires.s1_len.2)
+mirror-requires c = within_wider 5 32767 c.args.s1.now (lit≤ tt) c.requires.s1_value.0
 
 pub mirror-requires-2 : goal.mirror-requires-2
-mirror-requires-2 c = (c.requires.s1_len.1, refl, within_wider 5 32767 c.args.s2.now (lit≤ tt) c.requires.s1_len.3)
+mirror-requires-2 c = within_wider 5 32767 c.args.s2.now (lit≤ tt) c.requires.s1_value.1
 
-pub loop-k-init : goal.loop-k-init
-loop-k-init c = (omega arith, rw (c.requires.v1_value.0, c.requires.v1_value.1) (walk_start (pair c.args.s1.now c.args.s2.now) c.args.list.now))
+pub loop-place-init : goal.loop-place-init
+loop-place-init c = rw (c.requires.v1_value.0, c.requires.v1_value.1) (walk_start (pair c.args.s1.now c.args.s2.now) c.args.list.now)
 
 pub column_start-start-requires : goal.column_start-start-requires
-column_start-start-requires c = place_small c.args.list.now c.loop-k.k c.requires.list_len_bound.1 c.loop-k-test.true
+column_start-start-requires c = place_small c.args.list.now c.loop-place.place-index c.requires.list_len_bound.1 c.loop-place-test.true
 
-pub step-requires-clause-v1_value : goal.step-requires-clause-v1_value
-step-requires-clause-v1_value c =
-    let key = pair c.args.s1.now c.args.s2.now in
-    let sized : Sized key = record { first = c.requires.s1_len.0; second = c.requires.s1_len.1 } in
-    let fives = small c.args.s1.now c.args.s2.now c.requires.s1_len.2 c.requires.s1_len.3 in
-    let place = get_or c.args.list.now c.loop-k.k 0 in
-    let room = walk_room key fives c.loop-k.invariant.1 (omega arith) in
-    let x = within_column key sized 5 fives place (place_small c.args.list.now c.loop-k.k c.requires.list_len_bound.1 c.loop-k-test.true) in (
-      room.0,
-      room.1,
-      ap (every (within 5)) (part_is c.column_start-start.result place c.args.s1.now _ c.column_start-start.ensures c.requires.s1_len.0 c.mirror.ensures)
-          ∙ within_of 5 (shift place c.args.s1.now) x.first,
-      ap (every (within 5)) (part_is c.column_start-start.result place c.args.s2.now _ c.column_start-start.ensures c.requires.s1_len.1 c.mirror-2.ensures)
-          ∙ within_of 5 (shift place c.args.s2.now) x.second,
-    )
+pub invariant_of-column : goal.invariant_of-column
+invariant_of-column c =
+    let s1 = c.args.s1.now in
+    let s2 = c.args.s2.now in
+    let r = c.requires.s1_value in
+    let sized : Sized (pair s1 s2) = record { first = omega arith; second = omega arith } in
+    let place = get_or c.args.list.now c.loop-place.place-index 0 in
+    let start = c.column_start-start in
+    let first = part_is start.result place s1 _ start.ensures sized.first c.mirror.ensures in
+    let second = part_is start.result place s2 _ start.ensures sized.second c.mirror-2.ensures in
+    let x = within_column (pair s1 s2) sized 5 (small s1 s2 r.0 r.1) place (place_small c.args.list.now c.loop-place.place-index c.requires.list_len_bound.1 c.loop-place-test.true) in
+    record {
+      sized = (ap length first ∙ length_shift place s1 ∙ sized.first, ap length second ∙ length_shift place s2 ∙ sized.second);
+      small = (ap (every (within 5)) first ∙ within_of 5 (shift place s1) x.first, ap (every (within 5)) second ∙ within_of 5 (shift place s2) x.second);
+    }
 
-pub loop-k-preserved : goal.loop-k-preserved
-loop-k-preserved c =
-    let key = pair c.args.s1.now c.args.s2.now in
-    let sized : Sized key = record { first = c.requires.s1_len.0; second = c.requires.s1_len.1 } in
-    let place = get_or c.args.list.now c.loop-k.k 0 in (
-      omega arith,
-      rw (
-        c.step.ensures,
-        part_is c.column_start-start.result place c.args.s1.now c.mirror.new.out c.column_start-start.ensures c.requires.s1_len.0 c.mirror.ensures,
-        part_is c.column_start-start.result place c.args.s2.now c.mirror-2.new.out c.column_start-start.ensures c.requires.s1_len.1 c.mirror-2.ensures,
-      )
-          (walk_more key c.args.list.now c.loop-k.invariant.1 sized c.loop-k-test.true (place_small c.args.list.now c.loop-k.k c.requires.list_len_bound.1 c.loop-k-test.true)),
+pub step-requires : goal.step-requires
+step-requires c =
+    walk_room (pair c.args.s1.now c.args.s2.now) (small c.args.s1.now c.args.s2.now c.requires.s1_value.0 c.requires.s1_value.1) c.loop-place.invariant (omega arith)
+
+pub loop-place-preserved : goal.loop-place-preserved
+loop-place-preserved c =
+    let s1 = c.args.s1.now in
+    let s2 = c.args.s2.now in
+    let list = c.args.list.now in
+    let i = c.loop-place.place-index in
+    let sized : Sized (pair s1 s2) = record { first = omega arith; second = omega arith } in
+    let start = c.column_start-start in
+    rw (
+      c.step.ensures,
+      part_is start.result (get_or list i 0) s1 c.mirror.new.out start.ensures sized.first c.mirror.ensures,
+      part_is start.result (get_or list i 0) s2 c.mirror-2.new.out start.ensures sized.second c.mirror-2.ensures,
     )
+    (walk_more (pair s1 s2) list c.loop-place.invariant sized c.loop-place-test.true (place_small list i c.requires.list_len_bound.1 c.loop-place-test.true))
 
 pub returns : goal.returns
-returns c = walk_end (pair c.args.s1.now c.args.s2.now) _ c.loop-k.invariant.1 (omega arith)
+returns c = walk_end (pair c.args.s1.now c.args.s2.now) _ c.loop-place.invariant c.loop-place-test.false

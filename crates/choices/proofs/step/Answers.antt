@@ -21,14 +21,14 @@ room : (v c : List ℤ) → every (within (list_limit * 5)) v ≡ true → every
 room v c h j k = omega (arith, within_at (list_limit * 5) v h k, within_at 5 c j k)
 
 pub join-requires : goal.join-requires
-join-requires c = (c.requires.v1_len.0, c.requires.v1_len.2, room c.args.v1.now c.args.c1.now c.requires.v1_value.0 c.requires.v1_value.2)
+join-requires c = (c.args.column.sized.0, room c.args.v1.now c.args.column.first.now c.requires.0 c.args.column.small.0)
 
 pub join-requires-2 : goal.join-requires-2
-join-requires-2 c = (c.requires.v1_len.1, c.requires.v1_len.3, room c.args.v2.now c.args.c2.now c.requires.v1_value.1 c.requires.v1_value.3)
+join-requires-2 c = (c.args.column.sized.1, room c.args.v2.now c.args.column.second.now c.requires.1 c.args.column.small.1)
 
 pub returns : goal.returns
 unfolding chosen
 returns c =
     ap₂ pair c.join.ensures c.join-2.ensures
-    ∙ ap (λ (z : ℤ). pair (zip_with (added_if (lt_z z (pos 0))) c.args.v1.now c.args.c1.now) (zip_with (added_if (lt_z z (pos 0))) c.args.v2.now c.args.c2.now))
+    ∙ ap (λ (z : ℤ). pair (zip_with (added_if (lt_z z (pos 0))) c.args.v1.now c.args.column.first.now) (zip_with (added_if (lt_z z (pos 0))) c.args.v2.now c.args.column.second.now))
     ((element w32 _ c.inner_product-inner.type_inv).back ∙ c.inner_product-inner.ensures)

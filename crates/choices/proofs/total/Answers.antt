@@ -1,42 +1,44 @@
-use mathlib.Core.Path.{◌≡◌, refl, sym, ◌∙◌, ap}
-use Prim.Native.Nat.{◌+◌, ◌*◌, ◌≤◌}
+use mathlib.Core.Path.{◌≡◌, refl, sym, ap, ◌∙◌}
+use Prim.Native.Nat.{ℕ, ◌+◌, ◌*◌, ◌<◌, ◌≤◌}
 use native.Mathlib.Omega.{arith}
+use borrow.Author.Rules.{rules}
 use lib.IntN.{ℤ, pos, nat_abs, ◌+ℤ◌}
 use lib.ListN.{get_or}
 use mir.Syntax.{w16, w32}
 use mir.Val.{SFits, to_z, of_z}
+use mir.Facts.{to_z-of_z}
 use Rattle.laws.specs.Integers.{sumℤ}
 use Rattle.laws.proofs.Bounds.{abs_add, abs_mag}
 use Rattle.laws.proofs.Sums.{sum_more}
-use Rattle.laws.proofs.Machine.{Reads, held, fits, wider_is, operation_is}
+use Rattle.laws.proofs.Machine.{Reads, held, given, fits, operation_is}
 use Rattle.choices.proofs.total.Goals as goal
 
-pub loop-i-init : goal.loop-i-init
+pub loop-x-init : goal.loop-x-init
 unfolding sumℤ
-loop-i-init c = (omega arith, refl, omega arith)
+loop-x-init c = (refl, omega arith)
 
-module _ (c : goal.After-sum-1) where
-  abbrev term : ℤ
-  term = get_or c.args.sums.now c.loop-i.i (pos 0)
+-- a term of 16 bits joins a sum of fewer than 128 of them
+module _ (sum i : ℕ) (term wide : ℤ) (entry : SFits w16 term) (is : wide ≡ to_z w16 (of_z w16 term)) (small : nat_abs (to_z w32 sum) ≤ 32768 * i) (inside : i < 128) where
+  term_small : nat_abs term ≤ 32768
+  term_small = omega (arith, abs_mag term, entry.sfits)
 
-  entry : SFits w16 term
-  entry = record { sfits = c.sum-1.given }
+  reads : Reads w32 (of_z w32 wide) term
+  reads = record { back = ap (λ (z : ℤ). to_z w32 (of_z w32 z)) (is ∙ to_z-of_z entry) ∙ (given (fits {w = w32} {z = term} (omega (arith, term_small)))).back }
 
-  wide : Reads w32 (of_z w32 (to_z w16 (of_z w16 term))) term
-  wide = wider_is tt entry
+  next_small : nat_abs (to_z w32 sum +ℤ term) ≤ 32768 * (i + 1)
+  next_small = omega (arith, abs_add (to_z w32 sum) term, term_small)
 
-  next_small : nat_abs (to_z w32 c.loop-i.sum-bits +ℤ term) ≤ 32768 * (c.loop-i.i + 1)
-  next_small = omega (arith, abs_add (to_z w32 c.loop-i.sum-bits) term, abs_mag term, entry.sfits, c.loop-i.invariant.2)
+  next : to_z w32 (of_z w32 (to_z w32 sum +ℤ to_z w32 (of_z w32 wide))) ≡ to_z w32 sum +ℤ term
+  next = (operation_is (held w32 sum) reads ◌+ℤ◌ (fits (omega (arith, next_small)))).back
 
-  small : SFits w32 (to_z w32 c.loop-i.sum-bits +ℤ term)
-  small = fits (omega (arith, next_small))
-
-  next : to_z w32 (of_z w32 (to_z w32 c.loop-i.sum-bits +ℤ to_z w32 (of_z w32 (to_z w16 (of_z w16 term))))) ≡ to_z w32 c.loop-i.sum-bits +ℤ term
-  next = (operation_is (held w32 c.loop-i.sum-bits) wide ◌+ℤ◌ small).back
-
-pub loop-i-preserved : goal.loop-i-preserved
-loop-i-preserved c = (
-  omega arith,
-  next c ∙ ap (λ (z : ℤ). z +ℤ term c) c.loop-i.invariant.1 ∙ sym (sum_more (λ k. get_or c.args.sums.now k (pos 0)) c.loop-i.i),
-  omega (arith, ap nat_abs (next c), next_small c),
-)
+pub loop-x-preserved : goal.loop-x-preserved
+loop-x-preserved c =
+    let i = c.loop-x.x-index in
+    let sum = c.loop-x.sum-bits in
+    let entries : ℕ → ℤ = λ k. get_or c.args.sums.now k (pos 0) in
+    let entry : SFits w16 (get_or c.args.sums.now i (pos 0)) = search rules in
+    let inside : i < 128 = omega arith in
+    let is = next sum i (entries i) c.from-sum.result entry c.from-sum.ensures c.loop-x.invariant.1 inside in (
+      is ∙ ap (λ (z : ℤ). z +ℤ entries i) c.loop-x.invariant.0 ∙ sym (sum_more entries i),
+      omega (arith, ap nat_abs is, next_small sum i (entries i) c.from-sum.result entry c.from-sum.ensures c.loop-x.invariant.1 inside),
+    )

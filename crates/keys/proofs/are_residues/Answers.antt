@@ -14,7 +14,7 @@ use Rattle.laws.proofs.Loops.{same_fails, same_passes, same_ends}
 use Rattle.laws.proofs.Machine.{element}
 use Rattle.sets.specs.Numbers.{dimension, modulus}
 use Rattle.vectors.specs.Vectors.{within}
-use Rattle.keys.proofs.are_residues.Goals.{then-t-i, else-t-i}
+use Rattle.keys.proofs.are_residues.Goals.{then-x-residue, else-x-residue}
 use Rattle.keys.proofs.are_residues.Goals as goal
 
 abbrev residues : List ℤ → List ℕ
@@ -28,9 +28,9 @@ small s e i = leb-true _ _ (every_anywhere (within 5) s i (pos 0) e refl)
 
 pub residue-requires : goal.residue-requires
 residue-requires c =
-    rw (element w16 (get_or c.args.s.now c.loop-i.i (pos 0)) c.residue-arg-1.given).back (omega (arith, small c.args.s.now c.requires.2 c.loop-i.i))
+    rw (element w16 (get_or c.args.s.now c.loop-i.i (pos 0)) c.residue-arg-1.given).back (omega (arith, small c.args.s.now c.requires c.loop-i.i))
 
-entry : (c : goal.Joined-t-i) → c.residue.result ≡ get_or (residues c.args.s.now) c.loop-i.i 0
+entry : (c : goal.Joined-x-residue) → c.residue.result ≡ get_or (residues c.args.s.now) c.loop-i.i 0
 unfolding residue
 entry c =
     c.residue.ensures
@@ -41,15 +41,15 @@ pub loop-i-preserved : goal.loop-i-preserved
 loop-i-preserved c =
     let t = c.args.t.now in
     let r = residues c.args.s.now in
-    let e = long t c.args.s.now c.requires.0 c.requires.1 in
+    let e = long t c.args.s.now (omega arith) (omega arith) in
     let h : c.loop-i.i < length t = omega arith in (
       omega arith,
-      elim c.if-t-i.branch [
-        | then-t-i w ↦ same_fails t r e c.loop-i.i c.loop-i.all c.loop-i.invariant.1 h (λ e. w.if-t-i.true (e ∙ sym (entry c))) w.all-is
-        | else-t-i w ↦ same_passes t r e c.loop-i.i c.loop-i.all c.loop-i.invariant.1 h (w.if-t-i.false ∙ entry c) w.all-is
+      elim c.if-x-residue.branch [
+        | then-x-residue w ↦ same_fails t r e c.loop-i.i c.loop-i.all c.loop-i.invariant.1 h (λ e. w.if-x-residue.true (e ∙ sym (entry c))) w.all-is
+        | else-x-residue w ↦ same_passes t r e c.loop-i.i c.loop-i.all c.loop-i.invariant.1 h (w.if-x-residue.false ∙ entry c) w.all-is
       ],
     )
 
 pub returns : goal.returns
 returns c =
-    same_ends c.args.t.now (residues c.args.s.now) (long c.args.t.now c.args.s.now c.requires.0 c.requires.1) c.loop-i.i c.loop-i.all c.loop-i.invariant.1 (omega arith)
+    same_ends c.args.t.now (residues c.args.s.now) (long c.args.t.now c.args.s.now (omega arith) (omega arith)) c.loop-i.i c.loop-i.all c.loop-i.invariant.1 (omega arith)

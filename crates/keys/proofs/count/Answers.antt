@@ -14,9 +14,9 @@ use Rattle.keys.proofs.Counts.{counted_more}
 use Rattle.keys.proofs.count.Goals.{then-size, else-size}
 use Rattle.keys.proofs.count.Goals as goal
 
-pub loop-i-init : goal.loop-i-init
+pub loop-coefficient-init : goal.loop-coefficient-init
 unfolding counted
-loop-i-init c = (lit≤ tt, refl, lit≤ tt)
+loop-coefficient-init c = (lit≤ tt, refl, lit≤ tt)
 
 module _ (c : goal.Joined-size) where
   abbrev here : goal.Joined-size
@@ -29,19 +29,19 @@ module _ (c : goal.Joined-size) where
   size = here.args.size
 
   abbrev entry : ℤ
-  entry = get_or F here.loop-i.i (pos 0)
+  entry = get_or F here.loop-coefficient.coefficient-index (pos 0)
 
   is-size : c.size.result ≡ nat_abs entry
-  is-size = c.size.ensures ∙ ap nat_abs (element w16 entry c.size-arg-1.given).back
+  is-size = c.size.ensures ∙ ap nat_abs (element w16 entry c.coefficient-1.given).back
 
-  more : counted size (take (here.loop-i.i + 1) F) ≡ counted size (take here.loop-i.i F) + cond (eqb (nat_abs entry) size) 1 0
-  more = counted_more size F here.loop-i.i (omega arith)
+  more : counted size (take (here.loop-coefficient.coefficient-index + 1) F) ≡ counted size (take here.loop-coefficient.coefficient-index F) + cond (eqb (nat_abs entry) size) 1 0
+  more = counted_more size F here.loop-coefficient.coefficient-index (omega arith)
 
 abbrev one-if : Bool → ℕ
 one-if b = cond b 1 0
 
-pub loop-i-preserved : goal.loop-i-preserved
-loop-i-preserved c = (
+pub loop-coefficient-preserved : goal.loop-coefficient-preserved
+loop-coefficient-preserved c = (
   omega arith,
   elim c.if-size.branch [
     | then-size w ↦ omega (arith, w.found-is, more c, ap one-if (eq-eqb (nat_abs (entry c)) (size c) (omega (arith, is-size c, w.if-size.true))))

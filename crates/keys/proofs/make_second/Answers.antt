@@ -20,44 +20,44 @@ use Rattle.keys.proofs.make_second.Goals as goal
 small : (g : List ℤ) → every (within 2) g ≡ true → (k : ℕ) → nat_abs (get_or g k (pos 0)) ≤ 2
 small g e k = leb-true _ _ (every_anywhere (within 2) g k (pos 0) e refl)
 
-module _ (c : goal.After-g-1) where
+module _ (c : goal.After-coefficient-in-loop-coefficient-1) where
   abbrev x : ℤ
-  x = get_or c.loop-i.g c.loop-i.i (pos 0)
+  x = get_or c.loop-coefficient.g c.loop-coefficient.coefficient-index (pos 0)
 
-  old : x ≡ get_or c.args.g.now c.loop-i.i (pos 0)
-  old = next_is c.args.g.now (doubled c.args.g.now) (length_doubled c.args.g.now) c.loop-i.invariant.1 (pos 0) (omega arith)
+  old : x ≡ get_or c.args.g.now c.loop-coefficient.coefficient-index (pos 0)
+  old = next_is c.args.g.now (doubled c.args.g.now) (length_doubled c.args.g.now) c.loop-coefficient.invariant.1 (pos 0) (omega arith)
 
   x-is : Reads w16 (of_z w16 x) x
-  x-is = element w16 x c.g-1.given
+  x-is = element w16 x c.coefficient-in-loop-coefficient-1.given
 
   room : nat_abs (pos 2) * nat_abs x < 32768
-  room = omega (arith, ap nat_abs old, small c.args.g.now c.requires.1 c.loop-i.i)
+  room = omega (arith, ap nat_abs old, small c.args.g.now c.requires c.loop-coefficient.coefficient-index)
 
-pub overflow_mul-g : goal.overflow_mul-g
-overflow_mul-g c = mul_ok (held w16 2) (x-is c) (room c)
+pub overflow_mul-coefficient : goal.overflow_mul-coefficient
+overflow_mul-coefficient c = mul_ok (held w16 2) (x-is c) (room c)
 
-pub loop-i-preserved : goal.loop-i-preserved
-loop-i-preserved c = (
+pub loop-coefficient-preserved : goal.loop-coefficient-preserved
+loop-coefficient-preserved c = (
   omega arith,
-  more c.args.g.now (doubled c.args.g.now) (length_doubled c.args.g.now) c.loop-i.invariant.1 (pos 0) _ (omega arith)
-      ((mul_is (held w16 2) (x-is c) (room c)).back ∙ ap double (old c) ∙ sym (get_or_doubled c.args.g.now c.loop-i.i)),
+  more c.args.g.now (doubled c.args.g.now) (length_doubled c.args.g.now) c.loop-coefficient.invariant.1 (pos 0) _ (omega arith)
+      ((mul_is (held w16 2) (x-is c) (room c)).back ∙ ap double (old c) ∙ sym (get_or_doubled c.args.g.now c.loop-coefficient.coefficient-index)),
 )
 
-module _ (c : goal.After-g-2-1) where
-  done : c.loop-i.g ≡ doubled c.args.g.now
+module _ (c : goal.After-g-1) where
+  done : c.loop-coefficient.g ≡ doubled c.args.g.now
   done =
-      finish c.args.g.now (doubled c.args.g.now) (length_doubled c.args.g.now) c.loop-i.invariant.1 (omega arith)
+      finish c.args.g.now (doubled c.args.g.now) (length_doubled c.args.g.now) c.loop-coefficient.invariant.1 (omega arith)
 
-module _ (c : goal.After-g-2-1) where
+module _ (c : goal.After-g-1) where
   abbrev first : ℤ
-  first = get_or c.loop-i.g 0 (pos 0)
+  first = get_or c.loop-coefficient.g 0 (pos 0)
 
   first_is : Reads w16 (of_z w16 first) first
-  first_is = element w16 first c.g-2-1.given
+  first_is = element w16 first c.g-1.given
 
   first_small : nat_abs first ≤ 4
   first_small =
-      omega (arith, ap (λ (r : List ℤ). nat_abs (get_or r 0 (pos 0))) (done c), ap nat_abs (get_or_doubled c.args.g.now 0), abs_mul (pos 2) (get_or c.args.g.now 0 (pos 0)), small c.args.g.now c.requires.1 0)
+      omega (arith, ap (λ (r : List ℤ). nat_abs (get_or r 0 (pos 0))) (done c), ap nat_abs (get_or_doubled c.args.g.now 0), abs_mul (pos 2) (get_or c.args.g.now 0 (pos 0)), small c.args.g.now c.requires 0)
 
   sum : Reads w16 (of_z w16 (to_z w16 (of_z w16 first) +ℤ pos 1)) (first +ℤ pos 1)
   sum = add_is first_is (held w16 1) (omega (arith, first_small))
@@ -67,6 +67,6 @@ overflow_add-g c = add_ok (first_is c) (held w16 1) (omega (arith, first_small c
 
 pub returns : goal.returns
 returns c =
-    ap (λ (z : ℤ). update c.loop-i.g 0 z) (sum c).back
+    ap (λ (z : ℤ). update c.loop-coefficient.g 0 z) (sum c).back
     ∙ ap (λ (r : List ℤ). update r 0 (get_or r 0 (pos 0) +ℤ pos 1)) (done c)
     ∙ second_is c.args.g.now (omega arith)

@@ -33,7 +33,7 @@ module _ (c : After-inner_product-2) where
 
   room : nat_abs x + nat_abs y + n < 1073741824
   room =
-      omega (arith, ap nat_abs c.inner_product.ensures, ap nat_abs c.inner_product-2.ensures, inner_le_sizes c.args.y1.now c.args.v1.now, inner_le_sizes c.args.y2.now c.args.v2.now, c.requires.squared_value.1)
+      omega (arith, ap nat_abs c.inner_product.ensures, ap nat_abs c.inner_product-2.ensures, inner_le_sizes c.args.y1.now c.args.v1.now, inner_le_sizes c.args.y2.now c.args.v2.now, c.requires.1)
 
   small : nat_abs (x +ℤ y) + n < 1073741824
   small = omega (arith, abs_add x y, room)
@@ -52,10 +52,9 @@ module _ (c : After-inner_product-2) where
   -- what the sign bit makes of both
   masked_is : (b : Bool) → c.args.sign ≡ b → added_if (not b) (x +ℤ y) (pos n) ≡ inner_pair (masked c.args.sign y_pair v_pair) v_pair
   masked_is b e =
-      let l = c.requires.y1_len in
-      ap₂ (added_if (not b)) is_inner (ap pos c.requires.squared_value.0)
+      ap₂ (added_if (not b)) is_inner (ap pos c.requires.0)
       ∙ ap (λ (bit : Bool). added_if (not bit) (inner_pair y_pair v_pair) (pos (squares_pair v_pair))) (sym e)
-      ∙ sym (inner_masked c.args.sign y_pair v_pair (l.0 ∙ sym l.2) (l.1 ∙ sym l.3))
+      ∙ sym (inner_masked c.args.sign y_pair v_pair (omega arith) (omega arith))
 
 pub overflow_add-inner : goal.overflow_add-inner
 overflow_add-inner c =

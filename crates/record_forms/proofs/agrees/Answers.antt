@@ -1,16 +1,9 @@
-use mathlib.Core.Path.{sym, ◌∙◌}
-use native.Mathlib.Omega.{arith}
-use Rattle.record_forms.proofs.Agreement.{agree_stops, agree_passes, agree_ends}
+use Rattle.std.proofs.Common.{refl}
+use Rattle.record_forms.proofs.Agreement.{fields_differ, fields_agree}
 use Rattle.record_forms.proofs.agrees.Goals as goal
 
-pub returns-then-a-i : goal.returns-then-a-i
-returns-then-a-i c =
-    sym (c.loop-i.invariant.1 ∙ agree_stops c.loop-i.i _ _ _ (omega arith) (omega arith) (omega arith) c.if-a-i.true)
-
-pub loop-i-preserved : goal.loop-i-preserved
-loop-i-preserved c =
-    (omega arith, c.loop-i.invariant.1 ∙ agree_passes c.loop-i.i _ _ _ (omega arith) (omega arith) (omega arith) c.if-a-i.false)
+pub returns-then-ne : goal.returns-then-ne
+returns-then-ne c = rw (fields_differ c.args.from c.args.to c.args.a.now c.args.b.now c.ne.result c.ne.ensures c.if-ne.true) refl
 
 pub returns : goal.returns
-returns c =
-    sym (c.loop-i.invariant.1 ∙ agree_ends c.loop-i.i _ _ _ (omega arith))
+returns c = rw (fields_agree c.args.from c.args.to c.args.a.now c.args.b.now c.ne.result c.ne.ensures c.if-ne.false) refl

@@ -2,8 +2,7 @@ use mathlib.Core.Path.{◌≡◌}
 use mathlib.Core.List.{List}
 use Prim.Native.Nat.{ℕ}
 use Rattle.sets.specs.declared.Set.{Set}
-use Rattle.answers.specs.declared.Outcome.{Outcome}
-use Rattle.answers.specs.Outcomes.{filled}
+use Rattle.answers.specs.Outcomes.{Outcome, filled}
 use Rattle.record_forms.specs.declared.Form.{Form}
 use Rattle.records.specs.Signatures.{signature_in}
 use Rattle.records.specs.Writer.{recorded_to}

@@ -17,8 +17,8 @@ module _ (form told : Form) (s : Set) (rec : List ℕ) (e : form ≡ told) where
 
 pub returns-in-Plain : goal.returns-in-Plain
 returns-in-Plain c =
-    told_read c.args.form _ c.args.s c.args.rec.now c.in-Plain.is _ _ _ c.args.list.now c.unpack_plain.ensures
+    told_read c.args.form _ c.args.s c.args.rec.now c.in-Plain.is _ _ _ c.args.held.now.list c.unpack.ensures
 
 pub returns-in-Packed : goal.returns-in-Packed
 returns-in-Packed c =
-    told_read c.args.form _ c.args.s c.args.rec.now c.in-Packed.is _ _ _ c.args.list.now c.unpack_packed.ensures
+    told_read c.args.form _ c.args.s c.args.rec.now c.in-Packed.is _ _ _ c.args.held.now.list c.unpack-in-Packed.ensures

@@ -1,14 +1,7 @@
-use mathlib.Core.List.{List, map}
-use Prim.Native.Nat.{ℕ, ◌≤◌, ◌-◌}
+use mathlib.Core.List.{map}
 use Rattle.laws.proofs.Loops.{Rewritten}
 use Rattle.polynomials.specs.Field.{mul}
 use Rattle.ring.proofs.rescale.Given as goal
 
-abbrev written : List ℕ → List ℕ
-written s = map (mul 12097) s
-
-abbrev pub invariant-loop-i : goal.invariant-loop-i
-invariant-loop-i l = (l.i ≤ 512) × Rewritten l.initial.s (written l.initial.s) l.i l.s
-
-abbrev pub decreases-loop-i : goal.decreases-loop-i
-decreases-loop-i l = 512 - l.i
+abbrev pub invariant-loop-x : goal.invariant-loop-x
+invariant-loop-x l = Rewritten l.initial.s (map (mul 12097) l.initial.s) l.x-index l.s

@@ -1,7 +1,6 @@
-use mathlib.Core.Path.{◌≡◌}
 use mathlib.Core.List.{List}
-use Prim.Native.Nat.{ℕ, ◌≤◌, ◌-◌, ◌+◌, ◌*◌}
-use lib.ListN.{length, take}
+use Prim.Native.Nat.{ℕ, ◌+◌, ◌*◌}
+use lib.ListN.{take}
 use Rattle.laws.specs.Lists.{zip_with}
 use Rattle.laws.proofs.Loops.{Rewritten}
 use Rattle.ring.proofs.row.Given as goal
@@ -10,7 +9,4 @@ abbrev added : ℕ → List ℕ → List ℕ → List ℕ
 added a s c = zip_with (λ y z. z + a * y) s (take 8 c)
 
 abbrev pub invariant-loop-i : goal.invariant-loop-i
-invariant-loop-i l = (l.i ≤ 8) × (length l.c ≡ length l.initial.c) × Rewritten (take 8 l.initial.c) (added l.a l.s l.initial.c) l.i (take 8 l.c)
-
-abbrev pub decreases-loop-i : goal.decreases-loop-i
-decreases-loop-i l = 8 - l.i
+invariant-loop-i l = Rewritten (take 8 l.initial.c) (added l.a l.s l.initial.c) l.i (take 8 l.c)

@@ -1,5 +1,5 @@
 use mathlib.Core.Path.{◌≡◌, ap, ap₂, ◌∙◌}
-use mathlib.Core.Bool.{Bool, true}
+use mathlib.Core.Bool.{true}
 use mathlib.Core.List.{List}
 use Prim.Native.Nat.{ℕ, ◌+◌, ◌*◌, ◌-◌, ◌^◌, ◌<◌, ◌≤◌}
 use lib.IntN.{ℤ}
@@ -14,6 +14,7 @@ use Rattle.draw.specs.Draw.{walk_of}
 use Rattle.masking.specs.Masking.{masked, first_trial, second_trial}
 use Rattle.masking.proofs.Numbers.{first_mask, second_mask, sum_fits, trial_sums}
 use Rattle.signing.specs.Response.{Drawing}
+use Rattle.signing.specs.Requests.{drawing_by}
 use Rattle.signing.proofs.Given.{drawn_short, drawn_rejected, drawn_accepted, given_carried}
 use Rattle.signing.proofs.draw_for.Goals as goal
 
@@ -23,42 +24,39 @@ fits s y1 y2 v1 v2 e h =
     trial_sums s (sizes y1 v1) (sizes y2 v2) (squares v1) (squares v2)
     (sizes_le_times mask_limit y1 v1 (first_mask y1 y2 e)) (sizes_le_times mask_limit y2 v2 (second_mask y1 y2 e)) h
 
-abbrev drawing_of : List ℕ → Pair → Bool → List ℕ → List ℕ → Pair → Drawing
-drawing_of a y sign thresholds words old = record { a = a; y = y; sign = sign; thresholds = thresholds; words = words; old = old }
-
 walked : (s : Set) (d : Drawing) (v : Pair) (ending : Ending) (m n q : ℕ) → ending ≡ walk_of m n d.words d.thresholds
     → m ≡ kappa_of s * key_limit_of s - q → q ≡ squares_pair v → n ≡ second_trial (masked d.sign d.y v) v
     → ending ≡ walk_of (first_trial s v) (second_trial (masked d.sign d.y v) v) d.words d.thresholds
 walked s d v ending m n q e f g h =
     e ∙ ap₂ (λ (m n : ℕ). walk_of m n d.words d.thresholds) (f ∙ ap (λ (q : ℕ). kappa_of s * key_limit_of s - q) g) h
 
-pub second_trial-second-requires-clause-squared_value : goal.second_trial-second-requires-clause-squared_value
-second_trial-second-requires-clause-squared_value c =
+pub second_trial-second-requires : goal.second_trial-second-requires
+second_trial-second-requires c =
     let a = c.args in
-    let h = fits a.s a.y1.now a.y2.now a.v1.now a.v2.now c.requires.spectrum_value.1 c.requires.spectrum_value.2 in
+    let h = fits a.s a.signing.y1.now a.signing.y2.now a.v1.now a.v2.now c.requires.masks_value.0 c.requires.masks_value.1 in
     (c.squared_length-squared.ensures, rw c.squared_length-squared.ensures h)
 
-pub mask-requires-clause-by_index : goal.mask-requires-clause-by_index
-mask-requires-clause-by_index c =
+pub mask-requires : goal.mask-requires
+mask-requires c =
     let a = c.args in
-    sum_fits a.s a.y1.now a.v1.now (first_mask a.y1.now a.y2.now c.requires.spectrum_value.1) c.requires.by_index.0
+    sum_fits a.s a.signing.y1.now a.v1.now (first_mask a.signing.y1.now a.signing.y2.now c.requires.masks_value.0) c.requires.by_index.0
 
-pub mask-requires-2-clause-by_index : goal.mask-requires-2-clause-by_index
-mask-requires-2-clause-by_index c =
+pub mask-requires-2 : goal.mask-requires-2
+mask-requires-2 c =
     let a = c.args in
-    sum_fits a.s a.y2.now a.v2.now (second_mask a.y1.now a.y2.now c.requires.spectrum_value.1) c.requires.by_index.1
+    sum_fits a.s a.signing.y2.now a.v2.now (second_mask a.signing.y1.now a.signing.y2.now c.requires.masks_value.0) c.requires.by_index.1
 
 pub returns-in-OutOfWords : goal.returns-in-OutOfWords
 returns-in-OutOfWords c =
     let a = c.args in
-    let d = drawing_of a.a.now (pair a.y1.now a.y2.now) a.sign a.thresholds.now a.words.now (pair a.z1.now a.z2.now) in
+    let d = drawing_by a.signing a.z1.now a.z2.now in
     drawn_short a.s d (pair a.v1.now a.v2.now) _ (walked a.s d (pair a.v1.now a.v2.now) _ _ _ _ c.walk.ensures c.first_trial-first.ensures c.squared_length-squared.ensures c.second_trial-second.ensures)
     c.in-OutOfWords.is
 
 pub returns-in-Rejected : goal.returns-in-Rejected
 returns-in-Rejected c =
     let a = c.args in
-    let d = drawing_of a.a.now (pair a.y1.now a.y2.now) a.sign a.thresholds.now a.words.now (pair a.z1.now a.z2.now) in
+    let d = drawing_by a.signing a.z1.now a.z2.now in
     drawn_rejected a.s d (pair a.v1.now a.v2.now) _ (walked a.s d (pair a.v1.now a.v2.now) _ _ _ _ c.walk.ensures c.first_trial-first.ensures c.squared_length-squared.ensures c.second_trial-second.ensures)
     _ c.in-Rejected.is
 
@@ -66,7 +64,7 @@ pub returns-in-Accepted : goal.returns-in-Accepted
 unfolding masked
 returns-in-Accepted c =
     let a = c.args in
-    let d = drawing_of a.a.now (pair a.y1.now a.y2.now) a.sign a.thresholds.now a.words.now (pair a.z1.now a.z2.now) in
+    let d = drawing_by a.signing a.z1.now a.z2.now in
     drawn_accepted a.s d (pair a.v1.now a.v2.now) _ (walked a.s d (pair a.v1.now a.v2.now) _ _ _ _ c.walk.ensures c.first_trial-first.ensures c.squared_length-squared.ensures c.second_trial-second.ensures)
     _ _ c.in-Accepted.is
     (given_carried _ _ _ _ _ _ _ _ _ c.give.ensures c.mask.ensures c.mask-2.ensures)

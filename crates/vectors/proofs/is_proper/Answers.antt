@@ -1,26 +1,22 @@
-use mathlib.Core.Path.{◌≡◌, sym, ◌∙◌}
-use mathlib.Core.Bool.{true, false}
+use mathlib.Core.Path.{sym, ◌∙◌}
 use borrow.Author.Tests.{eq-eqb, ne_eqb}
-use lib.Dec.{eqb}
-use lib.ListN.{length}
-use Rattle.sets.specs.Numbers.{kappa_of}
+use Rattle.laws.proofs.Chain.{differ}
 use Rattle.vectors.specs.Places.{proper_list}
+use Rattle.vectors.proofs.is_proper.Goals.{then-list-kappa, else-list-kappa}
 use Rattle.vectors.proofs.is_proper.Goals as goal
 
-pub returns-then-list-kappa : goal.returns-then-list-kappa
+pub returns-then-is_rising : goal.returns-then-is_rising
 unfolding proper_list
-returns-then-list-kappa c =
-    let e : eqb (length c.args.list.now) (kappa_of c.args.s) ≡ false = ne_eqb _ _ (λ h. c.if-list-kappa.true (h ∙ sym c.kappa.ensures)) in
-    rw e
+returns-then-is_rising c =
+    elim c.if-list-kappa.branch [
+      | then-list-kappa w ↦ rw (eq-eqb _ _ (w.if-list-kappa.true ∙ c.kappa.ensures), sym w.is_rising.ensures ∙ sym w.value-is ∙ c.if-is_rising.true) c.all_below.ensures
+      | else-list-kappa w ↦ absurd (differ (sym (ne_eqb _ _ w.if-list-kappa.false) ∙ sym w.value-is ∙ c.if-is_rising.true))
+    ]
 
-pub returns-then-not-is_rising : goal.returns-then-not-is_rising
+pub returns-else-is_rising : goal.returns-else-is_rising
 unfolding proper_list
-returns-then-not-is_rising c =
-    let e : eqb (length c.args.list.now) (kappa_of c.args.s) ≡ true = eq-eqb _ _ (c.if-list-kappa.false ∙ c.kappa.ensures) in
-    rw (e, sym c.is_rising.ensures ∙ c.if-not-is_rising.true)
-
-pub returns : goal.returns
-unfolding proper_list
-returns c =
-    let e : eqb (length c.args.list.now) (kappa_of c.args.s) ≡ true = eq-eqb _ _ (c.if-list-kappa.false ∙ c.kappa.ensures) in
-    rw (e, sym c.is_rising.ensures ∙ c.if-not-is_rising.false) c.all_below.ensures
+returns-else-is_rising c =
+    elim c.if-list-kappa.branch [
+      | then-list-kappa w ↦ rw (eq-eqb _ _ (w.if-list-kappa.true ∙ c.kappa.ensures), sym w.is_rising.ensures ∙ sym w.value-is ∙ c.if-is_rising.false) c.if-is_rising.false
+      | else-list-kappa w ↦ rw (ne_eqb _ _ (λ h. w.if-list-kappa.false (h ∙ sym c.kappa.ensures))) c.if-is_rising.false
+    ]

@@ -1,25 +1,25 @@
-use mathlib.Core.Path.{◌≡◌, refl, ◌∙◌, ap}
+use mathlib.Core.Path.{◌≡◌, refl}
 use Prim.Native.Nat.{◌*◌, ◌^◌, ◌≤◌}
 use native.Mathlib.Nat.{mul-le-mul}
 use native.Mathlib.Omega.{arith}
 use lib.IntN.{ℤ, pos, nat_abs}
 use lib.ListN.{get_or}
-use lib.Signed.{nat_abs-le}
 use mir.Syntax.{w16}
+use mir.Val.{hbits}
+use Rattle.laws.proofs.Bounds.{abs_mag}
 use Rattle.laws.proofs.Machine.{element}
 use Rattle.vectors.specs.Vectors.{squares}
 use Rattle.vectors.proofs.Sums.{squares_more}
 use Rattle.vectors.proofs.squared_length.Goals as goal
 
-pub loop-i-init : goal.loop-i-init
+pub loop-entry-init : goal.loop-entry-init
 unfolding squares
-loop-i-init c = (omega arith, refl, omega arith)
+loop-entry-init c = (refl, omega arith)
 
-pub loop-i-preserved : goal.loop-i-preserved
-loop-i-preserved c =
-    let entry = get_or c.args.x.now c.loop-i.i (pos 0) in
-    let is_square : c.square.result ≡ nat_abs entry * nat_abs entry =
-    c.square.ensures ∙ ap (λ (z : ℤ). nat_abs z * nat_abs z) (element w16 entry c.square-arg-1.given).back in
-    let h = nat_abs-le entry c.square-arg-1.given in
-    let small : c.square.result ≤ 2 ^ 30 = omega (arith, is_square, mul-le-mul h h) in
-    (omega arith, omega (arith, is_square, squares_more c.args.x.now c.loop-i.i (omega arith)), omega (arith, small))
+pub loop-entry-preserved : goal.loop-entry-preserved
+loop-entry-preserved c =
+    let entry : ℤ = get_or c.args.x.now c.loop-entry.entry-index (pos 0) in
+    let is_square : c.from-sum.result ≡ nat_abs entry * nat_abs entry = grind (arith, element) in
+    let size : nat_abs entry ≤ 2 ^ hbits w16 = grind (arith, abs_mag) in
+    let small : c.from-sum.result ≤ 2 ^ 30 = omega (arith, is_square, mul-le-mul size size) in
+    (omega (arith, is_square, squares_more c.args.x.now c.loop-entry.entry-index (omega arith)), omega (arith, small))

@@ -1,5 +1,5 @@
-use native.Mathlib.Omega.{arith}
 use mathlib.Core.Path.{◌≡◌}
+use native.Mathlib.Omega.{arith}
 use lib.IntN.{◌-ℤ◌}
 use lib.ListN.{length}
 use mir.Syntax.{w16}
@@ -9,12 +9,10 @@ use Rattle.vectors.proofs.subtract_from.Goals as goal
 
 pub loop-i-preserved : goal.loop-i-preserved
 loop-i-preserved c =
-    let same : length c.args.v.now ≡ length c.args.c.now = omega arith in (
-      omega arith,
-      combine_more ◌-ℤ◌ c.args.v.now c.args.c.now same c.loop-i.invariant.1 w16 abs_sub (omega arith) (c.requires.2 c.loop-i.i) c.v-1.given c.v-in-loop-i-1.given,
-    )
+    let same : length c.args.v.now ≡ length c.args.c.now = omega arith in
+    combine_more ◌-ℤ◌ c.args.v.now c.args.c.now same c.loop-i.invariant w16 abs_sub (omega arith) (c.requires.1 c.loop-i.i)
 
 pub returns : goal.returns
 returns c =
     let same : length c.args.v.now ≡ length c.args.c.now = omega arith in
-    combine_finish ◌-ℤ◌ c.args.v.now c.args.c.now same c.loop-i.invariant.1 (omega arith)
+    combine_finish ◌-ℤ◌ c.args.v.now c.args.c.now same c.loop-i.invariant (omega arith)

@@ -11,7 +11,7 @@ use Rattle.records.proofs.convert.Tie as tie
 
 -- a call of a conversion: its arguments, and that each entry of the lent `&[u8]` fits 8 bits
 abbrev pub Call : Type 0
-Call = lts.After-shared_slice_known tie.the-claims convert.Pre convert.Post
+Call = lts.After-shared_slice_known tie.the-claims convert.Pre convert.Post tie.handed_clauses
 
 -- whatever the contract admits of such a call, if its number is 0
 pub lent_converted_back : (c : Call) (r : _) (s : _)

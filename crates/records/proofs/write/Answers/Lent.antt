@@ -11,7 +11,7 @@ use Rattle.records.proofs.write.Tie as tie
 
 -- a call of the writer: its arguments, each within its type
 abbrev pub Call : Type 0
-Call = lts.Start tie.the-claims write.Pre write.Post
+Call = lts.Start tie.the-claims write.Pre write.Post tie.handed_clauses
 
 -- whatever the contract admits of such a call, if its number is 0
 pub lent_written_reads : (c : Call) (r : _) (s : _)
