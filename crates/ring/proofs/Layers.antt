@@ -1,13 +1,16 @@
 -- One layer of the transform, as the code makes it. And what the table and the roots hold.
 -- Assumes nothing.
 use mathlib.Core.Path.{◌≡◌, refl, ap, ap₂, sym, ◌∙◌}
-use mathlib.Core.Bool.{true}
+use mathlib.Core.Bool.{true, ◌&&◌}
 use mathlib.Core.List.{List, ◌++◌}
-use Prim.Native.Nat.{ℕ, zero, suc, ◌+◌, ◌*◌, ◌-◌, ◌/◌, ◌<◌, ◌≤◌}
+use Prim.Native.Nat.{ℕ, zero, suc, ◌+◌, ◌*◌, ◌-◌, ◌/◌, ◌%◌, ◌<◌, ◌≤◌}
 use native.Mathlib.Nat.{not-suc-le-zero}
 use native.Mathlib.Omega.{arith}
+use borrow.Author.Tests.{eqb-true}
+use lib.Dec.{eqb}
 use lib.ListN.{length, take, drop, get_or, length-drop}
 use lib.Seq.{length-take-le}
+use Rattle.laws.proofs.Chain.{and_left, and_right}
 use Rattle.laws.proofs.Entries.{length-tabulate, get_or-tabulate, length-zip_with}
 use Rattle.laws.specs.Lists.{tabulate, zip_with}
 use Rattle.sets.specs.Numbers.{dimension}
@@ -33,10 +36,31 @@ roots_of t p =
     let entry : ℕ → ℕ = λ i. get_or t (8 * i) 0 in
     (length-tabulate entry 128, λ k h. get_or-tabulate entry 128 k 0 h ∙ power_at t p (8 * k) (omega arith))
 
+-- the root whose exponent is d
+pub root_at : (t : List ℕ) → Roots (tabulate (λ i. get_or t (8 * i) 0) 128) → (d : ℕ) → d < 1024 → d % 8 ≡ 0 → get_or t d 0 ≡ power d
+unfolding Rooted Roots
+root_at t p d h m =
+    let entry : ℕ → ℕ = λ i. get_or t (8 * i) 0 in
+    let same : 8 * (d / 8) ≡ d = omega arith in
+    rw same at (sym (get_or-tabulate entry 128 (d / 8) 0 (omega arith)) ∙ p.1 (d / 8) (omega arith))
+
 -- the exponent of every power that the transform takes is a multiple of 8
 pub in_eighths : aligned 6 dimension ≡ true
 unfolding aligned
 in_eighths = refl
+
+-- what a split of aligned exponents takes and leaves
+pub aligned_split : (k e : ℕ) → 0 < k → aligned k e ≡ true
+    → (8 * (e / 2 / 8) ≡ e / 2) × (aligned (k - 1) (e / 2) ≡ true) × (aligned (k - 1) (e / 2 + 512) ≡ true)
+unfolding aligned
+aligned_split zero e p o = absurd (not-suc-le-zero p)
+aligned_split (suc k) e p o =
+    let d : suc k - 1 ≡ k = omega arith in
+    let here = eqb (8 * (e / 2 / 8)) (e / 2) in
+    let lower = aligned k (e / 2) in
+    let upper = aligned k (e / 2 + 512) in
+    let rest : lower && upper ≡ true = and_right here (lower && upper) o in
+    rw d (eqb-true (8 * (e / 2 / 8)) (e / 2) (and_left here (lower && upper) o), and_left lower upper rest, and_right lower upper rest)
 
 -- ---- sizes
 

@@ -6,13 +6,13 @@ mod factor;
 mod table;
 mod transformed;
 
-ghost use Rattle.std.specs.Prelude.{◌≡◌, ◌∷◌, ◌++◌, map, ◌+◌, ◌*◌, ◌-◌, ◌/◌, ◌%◌, ◌<◌, ◌≤◌, length, get_or, take, drop};
+ghost use Rattle.std.specs.Prelude.{◌≡◌, true, ◌∷◌, ◌++◌, map, ◌+◌, ◌*◌, ◌-◌, ◌/◌, ◌%◌, ◌<◌, ◌≤◌, length, get_or, take, drop};
 ghost use Rattle.laws.specs.Lists.{tabulate, zip_with};
 ghost use Rattle.sets.specs.Numbers.{dimension, modulus};
 ghost use Rattle.polynomials.specs.Field.{add, mul, product_modulo};
 ghost use Rattle.polynomials.specs.Product.{product};
 ghost use Rattle.ring.specs.Powers.{power, Powers};
-ghost use Rattle.ring.specs.Transform.{sub, Within, plus, minus, back, size, remainders, spectrum_of, Roots, convolution};
+ghost use Rattle.ring.specs.Transform.{sub, Within, plus, minus, back, size, remainders, spectrum_of, Roots, aligned, convolution};
 
 use coefficient::Coefficient;
 use factor::Factor;
@@ -61,9 +61,9 @@ pub fn multiply(a: &[u16], spectrum: &[u16], z: &[i16], out: &mut [u16])
 
 // ---- the powers that the transform takes
 
-// 49 to an exponent, from the table.
+// 49 to an exponent that is a multiple of 8, from the table.
 fn power(exponent: usize) -> u16
-    requires { exponent < dimension + dimension }
+    requires { (exponent < dimension + dimension) × (exponent % 8 ≡ 0) }
     ensures { result ≡ power exponent }
 {
     powers()[exponent]
@@ -105,7 +105,7 @@ fn rescale(s: &mut [u16])
 
 // s, of size k, taken apart into its remainders of 8 coefficients, modulo x^(size k) - 49^e. Of 16 coefficients one split is all.
 fn decompose(s: &mut [u16], k: usize, e: usize)
-    requires { (0 < k) × (length s.old ≡ size k) × (e < dimension + dimension) × Within (modulus - 1) s.old }
+    requires { (0 < k) × (length s.old ≡ size k) × (e < dimension + dimension) × Within (modulus - 1) s.old × (aligned k e ≡ true) }
     ensures { s.new ≡ remainders k e s.old }
 {
     let half = s.len() / 2;
@@ -120,7 +120,7 @@ fn decompose(s: &mut [u16], k: usize, e: usize)
 
 // s times what f are the remainders of, modulo x^(size k) - 49^e, and doubled k times. The halves of 16 coefficients are blocks.
 fn convolve(s: &mut [u16], f: &[u16], k: usize, e: usize)
-    requires { (0 < k) × (length s.old ≡ size k) × (length f.now ≡ size k) × (e < dimension + dimension) × Within (modulus - 1) s.old × Within (modulus - 1) f.now }
+    requires { (0 < k) × (length s.old ≡ size k) × (length f.now ≡ size k) × (e < dimension + dimension) × Within (modulus - 1) s.old × Within (modulus - 1) f.now × (aligned k e ≡ true) }
     ensures { s.new ≡ convolution k e f.now s.old }
 {
     let half = s.len() / 2;

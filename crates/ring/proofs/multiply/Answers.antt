@@ -3,13 +3,14 @@ use mathlib.Core.List.{map}
 use native.Mathlib.Omega.{arith}
 use lib.ListN.{length}
 use Rattle.polynomials.specs.Field.{mul}
-use Rattle.ring.specs.Transform.{size, convolution}
+use Rattle.ring.specs.Transform.{size, aligned, convolution}
 use Rattle.ring.proofs.Zips.{within_of}
+use Rattle.ring.proofs.Layers.{in_eighths}
 use Rattle.ring.proofs.Spectra.{length_spectrum, within_spectrum, within_signed_residues, product_is}
 use Rattle.ring.proofs.multiply.Goals as goal
 
 pub convolve-requires : goal.convolve-requires
-unfolding size
+unfolding size aligned
 convolve-requires c =
     let a = c.args in (
       omega arith,
@@ -18,6 +19,7 @@ convolve-requires c =
       omega arith,
       within_of c.residues.new.s _ c.residues.ensures (within_signed_residues a.z.now),
       within_of a.spectrum.now _ c.requires.3 (within_spectrum a.a.now),
+      in_eighths,
     )
 
 pub returns : goal.returns
