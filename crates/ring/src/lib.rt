@@ -69,12 +69,14 @@ fn power(exponent: usize) -> u16
     powers()[exponent]
 }
 
-// The table, whose rule is proved here once. The transform takes each eighth entry of it.
+// The table, whose rule is proved here once. The transform takes each eighth entry of it. It is lent by a static, in place: a const array that a body names is
+// laid out on the stack.
 fn powers() -> &'static [u16; 1024]
     ensures table { Powers result.now }
     ensures roots { Roots (tabulate (λ i. get_or result.now (8 * i) 0) 128) }
 {
-    &POWERS
+    static TABLE: [u16; 1024] = POWERS;
+    &TABLE
 }
 
 // ---- residues of operands and of the answer, which are no type of their own: they stand in slices of u16 that C lends
