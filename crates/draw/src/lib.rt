@@ -96,18 +96,20 @@ impl Draw<'_> {
         ensures { result ≡ trial_of self.entry.words.now self.entry.thresholds.now x from }
     {
         let mut next = from;
-        for place in (0..Set::PLACES).rev() {
-            if is_set(x, place) {
-                let Some(&word) = self.words.get(next) else {
-                    return Trial::Short;
-                };
-                next += 1;
-                if self.thresholds[place] <= word {
-                    return Trial::Failure(next);
+        'trial: {
+            for place in (0..Set::PLACES).rev() {
+                if is_set(x, place) {
+                    let Some(&word) = self.words.get(next) else {
+                        break 'trial Trial::Short;
+                    };
+                    next += 1;
+                    if self.thresholds[place] <= word {
+                        break 'trial Trial::Failure(next);
+                    }
                 }
             }
+            Trial::Success(next)
         }
-        Trial::Success(next)
     }
 }
 
