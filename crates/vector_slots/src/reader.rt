@@ -1,5 +1,6 @@
 // A file's bytes in their order. Each method gives `None` where the file ends too early.
-ghost use Rattle.std.specs.Prelude.{◌≡◌, ◌≤◌, ◌↔◌, length, take, drop, IsSome, IfSome, IfNone};
+ghost use Rattle.std.specs.Prelude.{◌≡◌, ◌≤◌, ◌↔◌, length, take, drop, slice_index, IsSome, IfSome, IfNone};
+ghost use Rattle.std.specs.Int.{w16, w32, from_le_bytes};
 
 #[derive(Clone, Copy)]
 pub struct Reader<'a> {
@@ -30,21 +31,21 @@ impl<'a> Reader<'a> {
 
     pub fn u8(&mut self) -> Option<u8>
         ensures found { IsSome result ↔ (1 ≤ length self.old.rest.now) }
-        ensures taken { IfSome result (λ _. self.new.rest.now ≡ drop 1 self.old.rest.now) }
+        ensures taken { IfSome result (λ x. (x ≡ slice_index self.old.rest.now 0) × (self.new.rest.now ≡ drop 1 self.old.rest.now)) }
     {
         self.array().map(u8::from_le_bytes)
     }
 
     pub fn u16(&mut self) -> Option<u16>
         ensures found { IsSome result ↔ (2 ≤ length self.old.rest.now) }
-        ensures taken { IfSome result (λ _. self.new.rest.now ≡ drop 2 self.old.rest.now) }
+        ensures taken { IfSome result (λ x. (x ≡ from_le_bytes w16 (take 2 self.old.rest.now)) × (self.new.rest.now ≡ drop 2 self.old.rest.now)) }
     {
         self.array().map(u16::from_le_bytes)
     }
 
     pub fn u32(&mut self) -> Option<u32>
         ensures found { IsSome result ↔ (4 ≤ length self.old.rest.now) }
-        ensures taken { IfSome result (λ _. self.new.rest.now ≡ drop 4 self.old.rest.now) }
+        ensures taken { IfSome result (λ x. (x ≡ from_le_bytes w32 (take 4 self.old.rest.now)) × (self.new.rest.now ≡ drop 4 self.old.rest.now)) }
     {
         self.array().map(u32::from_le_bytes)
     }

@@ -1,5 +1,8 @@
 // The eighteen slots, each a row of bytes and a length.
 ghost use Rattle.std.specs.Prelude.{◌≡◌, ◌<◌, ℕ, length, take, replicate, slice_set, map, IfNone};
+ghost use Rattle.std.specs.Int.{w8, w16, w64, cast_signed, from_le_bytes};
+ghost use Rattle.std.specs.Simd.{first_chunks};
+ghost use Rattle.vector_slots.specs.Slots.{row_of, bytes_in};
 
 use std::array;
 
@@ -67,7 +70,8 @@ impl TryFrom<u8> for Slot {
 
 impl Slot {
     fn index(self) -> usize
-        ensures { result < 18 }
+        ensures below { result < 18 }
+        ensures place { result ≡ row_of self }
     {
         self as usize
     }
@@ -136,7 +140,8 @@ impl Slots {
 
     // All bytes of a slot.
     pub fn room(&self, slot: Slot) -> &[u8]
-        ensures { length result.now ≡ 2048 }
+        ensures length { length result.now ≡ 2048 }
+        ensures bytes { result.now ≡ bytes_in self.now.rows slot }
     {
         &self.rows[slot.index()].bytes
     }
@@ -144,28 +149,31 @@ impl Slots {
     // ---- a slot's row, past its length too
     // Four, not one: over an `F: Fn([u8; N]) -> T` no proof is made (a bound names a const parameter).
 
-    pub fn narrow(&self, slot: Slot) -> [i8; ENTRIES] {
+    pub fn narrow(&self, slot: Slot) -> [i8; ENTRIES]
+        ensures { result ≡ map (cast_signed w8) (take ENTRIES (bytes_in self.now.rows slot)) }
+    {
         let bytes = self.room(slot);
         array::from_fn(|i| bytes[i].cast_signed())
     }
 
-    pub fn wide(&self, slot: Slot) -> [i16; ENTRIES] {
+    pub fn wide(&self, slot: Slot) -> [i16; ENTRIES]
+        ensures { result ≡ map (λ entry. cast_signed w16 (from_le_bytes w16 entry)) (first_chunks 2 ENTRIES (bytes_in self.now.rows slot)) }
+    {
         let (entries, _) = self.room(slot).as_chunks::<2>();
         array::from_fn(|i| i16::from_le_bytes(entries[i]))
     }
 
-    pub fn whole(&self, slot: Slot) -> [u16; ENTRIES] {
+    pub fn whole(&self, slot: Slot) -> [u16; ENTRIES]
+        ensures { result ≡ map (from_le_bytes w16) (first_chunks 2 ENTRIES (bytes_in self.now.rows slot)) }
+    {
         let (entries, _) = self.room(slot).as_chunks::<2>();
         array::from_fn(|i| u16::from_le_bytes(entries[i]))
     }
 
-    pub fn long(&self, slot: Slot) -> [u64; 64] {
-        // By a loop: over these 64, `from_fn`'s proof that i is below the length stops at a limit of `grind`.
-        let mut row = [0; 64];
-        let (entries, _) = self.room(slot).as_chunks();
-        for (entry, bytes) in row.iter_mut().zip(entries) {
-            *entry = u64::from_le_bytes(*bytes);
-        }
-        row
+    pub fn long(&self, slot: Slot) -> [u64; 64]
+        ensures { result ≡ map (from_le_bytes w64) (first_chunks 8 64 (bytes_in self.now.rows slot)) }
+    {
+        let (entries, _) = self.room(slot).as_chunks::<8>();
+        array::from_fn(|i| u64::from_le_bytes(entries[i]))
     }
 }

@@ -1,0 +1,2 @@
+-- What `array::from_fn` and `as_chunks` give (`Made`).
+pub mod Made

@@ -1,0 +1,2 @@
+-- The slots as clauses name them.
+pub mod Slots
