@@ -1,4 +1,6 @@
 // The file, entry by entry.
+ghost use Rattle.std.specs.Prelude.{◌≡◌, ◌*◌, ◌↔◌, ◌⊎◌, IsSome, IfSome};
+
 use crate::tally::Tally;
 use std::io;
 use vector_calls::{Call, Verdicts};
@@ -78,7 +80,10 @@ impl<'a> Entry<'a> {
 }
 
 // The bytes of so many elements of a width.
-fn scaled(width: u8, count: u16) -> Option<usize> {
+fn scaled(width: u8, count: u16) -> Option<usize>
+    ensures found { IsSome result ↔ ((width ≡ 1) ⊎ (width ≡ 2) ⊎ (width ≡ 8)) }
+    ensures bytes { IfSome result (λ bytes. bytes ≡ width * count) }
+{
     let count = usize::from(count);
     match width {
         1 => Some(count),
