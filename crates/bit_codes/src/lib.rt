@@ -81,10 +81,12 @@ pub fn unpack_at(bytes: &[u8], at: usize, width: usize, entries: &mut [u16]) -> 
     ensures { (result ≡ at + width * length entries.old)
         × (entries.new ≡ entries_from at width (length entries.old) bytes.now) }
 {
-    for (k, entry) in entries.iter_mut().enumerate() {
-        *entry = bits_at(bytes, 8, at + width * k, width);
+    let mut place = at;
+    for entry in entries.iter_mut() {
+        *entry = bits_at(bytes, 8, place, width);
+        place += width;
     }
-    at + width * entries.len()
+    place
 }
 
 pub fn pack(entries: &[u16], width: usize, out: &mut [u8])
