@@ -24,23 +24,20 @@ struct Column<'a> {
 }
 
 // v1 and v2 come as all zeros and leave as the sign choices. A column's entries are at most 5, and those of v at most 5 for each place.
-// v1 and v2 (and s1 and s2) stay two: docs/DECISIONS.md names `choose`, which has the four, and what is called on them goes over one half.
-pub fn choose(
-    s1: &Polynomial<i16>,
-    s2: &Polynomial<i16>,
-    list: &[u16],
-    v1: &mut Polynomial<i16>,
-    v2: &mut Polynomial<i16>,
-)
-    requires s1_value { (every (within 5) s1.now ≡ true) × (every (within 5) s2.now ≡ true) }
+// v1 and v2 (and s1 and s2) stay two, and slices, whose lengths are a clause: docs/DECISIONS.md names `choose`, which has the four, and what is called on them goes
+// over one half.
+pub fn choose(s1: &[i16], s2: &[i16], list: &[u16], v1: &mut [i16], v2: &mut [i16])
+    requires s1_len { (length s1.now ≡ dimension) × (length s2.now ≡ dimension) × (every (within 5) s1.now ≡ true) × (every (within 5) s2.now ≡ true) }
     requires list_len_bound { (length list.now ≤ list_limit) × (every is_place list.now ≡ true) }
     requires v1_value { (v1.old ≡ zeros) × (v2.old ≡ zeros) }
     ensures { pair v1.new v2.new ≡ choices (pair s1.now s2.now) list.now }
 {
+    let v1: &mut Polynomial<i16> = v1.as_mut_array().unwrap();
+    let v2: &mut Polynomial<i16> = v2.as_mut_array().unwrap();
     let mut double1 = [0i16; 2 * Set::DIMENSION];
-    vectors::mirror(s1, &mut double1);
+    vectors::mirror(s1.try_into().unwrap(), &mut double1);
     let mut double2 = [0i16; 2 * Set::DIMENSION];
-    vectors::mirror(s2, &mut double2);
+    vectors::mirror(s2.try_into().unwrap(), &mut double2);
     for &place in list {
         let start = column_start(place);
         let end = start + Set::DIMENSION;
