@@ -7,11 +7,11 @@ ghost use Rattle.laws.specs.Lists.{every, same};
 ghost use Rattle.laws.specs.Refusals.{must};
 ghost use Rattle.sets.specs.Numbers.{dimension, modulus};
 ghost use Rattle.answers.specs.declared.Refusal.TheVariants.{CoefficientOutside};
+ghost use Rattle.ring.specs.Transform.{spectrum_of};
 ghost use Rattle.vectors.specs.Vectors.{within};
 ghost use Rattle.keys.specs.Key.{in_range, second, relation, counted, has_counts, right_counts, proper_key, key_test, key_test_of};
 
 use answers::{Outcome, Refusal};
-use ring::Transformed;
 use sets::{Polynomial, Set};
 
 // The key test: refusals 1, 2, 3, 15, 6. Where the counts are right 7 can't occur, and no length is computed.
@@ -59,11 +59,7 @@ fn examine(s: Set, f: &Polynomial<i8>, g: &Polynomial<i8>, a: &Polynomial<u16>) 
     make_second(&mut s2);
     let mut spectrum = [0u16; Set::DIMENSION];
     ring::transform_key(a, &mut spectrum);
-    let transformed = Transformed {
-        key: a,
-        spectrum: &spectrum,
-    };
-    if !holds_relation(transformed, &s1, &s2) {
+    if !holds_relation(a, &spectrum, &s1, &s2) {
         return Err(Refusal::RelationBroken);
     }
     Ok(())
@@ -80,9 +76,12 @@ pub fn in_range(f: &[i16], g: &[i16], a: &[u16]) -> bool
 }
 
 // Whether f and g have the set's counts; both are widened.
-pub fn right_counts(s: Set, f: &Polynomial<i16>, g: &Polynomial<i16>) -> bool
+pub fn right_counts(s: Set, f: &[i16], g: &[i16]) -> bool
+    requires { (length f.now ≡ dimension) × (length g.now ≡ dimension) }
     ensures { result ≡ right_counts s f.now g.now }
 {
+    let f: &Polynomial<i16> = f.try_into().unwrap();
+    let g: &Polynomial<i16> = g.try_into().unwrap();
     has_counts(s, f) && has_counts(s, g)
 }
 
@@ -118,14 +117,14 @@ pub fn make_second(g: &mut Polynomial<i16>)
 }
 
 // Whether a times s1 = s2 modulo q.
-pub fn holds_relation(a: Transformed, s1: &Polynomial<i16>, s2: &Polynomial<i16>) -> bool
-    requires { every (within 5) s2.now ≡ true }
-    ensures { result ≡ relation a.entry.key.now s1.now s2.now }
+pub fn holds_relation(a: &[u16], spectrum: &[u16], s1: &[i16], s2: &[i16]) -> bool
+    requires a_len { (length a.now ≡ dimension) × (length s1.now ≡ dimension) × (length s2.now ≡ dimension) }
+    requires spectrum_value { (spectrum.now ≡ spectrum_of a.now) × (every (within 5) s2.now ≡ true) }
+    ensures { result ≡ relation a.now s1.now s2.now }
 {
-    let Transformed { key, spectrum } = a;
     let mut t = [0u16; Set::DIMENSION];
-    ring::multiply(key, spectrum, s1, &mut t);
-    are_residues(&t, s2)
+    ring::multiply(a, spectrum, s1, &mut t);
+    are_residues(&t, s2.try_into().unwrap())
 }
 
 // Whether t is s modulo q, place by place. Not left early, as a range test is not. With `residue` of what is within q, and not `rem_euclid`: see `count`.

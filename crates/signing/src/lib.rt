@@ -81,8 +81,7 @@ impl From<Refusal> for Refused {
 }
 
 // The response: refusals 1, 2, 3, 4, 5, 15, 6, then 8 or 9 as the walk ends, then 10, 11. As in the key test, 7 can't occur.
-// The parameters are those of C's call, in its order; what they are inside is a `Request`. z1 and z2 stay slices: of one behind a `&mut` array made of it a proof
-// knows nothing after the loan.
+// The parameters are those of C's call, in its order; what they are inside is a `Request`. z1 and z2 stay slices, which are copied to at the end.
 #[tactic(auto, unfolding(crate::specs::Response::response))]
 pub fn respond(
     set: u32,
@@ -234,18 +233,17 @@ fn sign_with(
     } = lent;
     let mut spectrum = [0u16; Set::DIMENSION];
     ring::transform_key(a, &mut spectrum);
-    let a = Transformed {
-        key: a,
-        spectrum: &spectrum,
-    };
-    if !keys::holds_relation(a, s1, s2) {
+    if !keys::holds_relation(a, &spectrum, s1, s2) {
         return Err(Refusal::RelationBroken.into());
     }
     let mut v1 = [0i16; Set::DIMENSION];
     let mut v2 = [0i16; Set::DIMENSION];
     choices::choose(s1, s2, list, &mut v1, &mut v2);
     let signing = Signing {
-        a,
+        a: Transformed {
+            key: a,
+            spectrum: &spectrum,
+        },
         y1,
         y2,
         sign,
@@ -311,8 +309,9 @@ fn give(
         (pair w1.now (daggers s (sums signing.entry.a.key.now signing.entry.y1.now signing.entry.y2.now) w2.now)) }
 {
     let Signing { a, y1, y2, .. } = signing;
+    let Transformed { key, spectrum } = a;
     let mut rounded = [0i8; Set::DIMENSION];
-    masking::shorten(s, a, y1, y2, w2, &mut rounded);
+    masking::shorten(s, key, spectrum, y1, y2, w2, &mut rounded);
     limits::length_rule(s, w1, &rounded).map_err(|refusal| Refused { refusal, words })?;
     z1.copy_from_slice(w1);
     z2.copy_from_slice(&rounded);

@@ -58,14 +58,15 @@ pub fn polynomial(shape: Shape) -> Polynomial<i8>
 // a = (2g + 1) / f, where f has an inverse; a is zero where a coefficient of f or g is not -2 .. 2.
 // Zero, no `None`: a public function that could not fail still can't.
 #[tactic(auto, using(keys::proofs::Ranges::g_small))]
-pub fn public_key(f: &Polynomial<i8>, g: &Polynomial<i8>) -> Polynomial<u16>
+pub fn public_key(f: &[i8], g: &[i8]) -> Polynomial<u16>
+    requires { (length f.now ≡ dimension) × (length g.now ≡ dimension) }
     ensures { length result ≡ dimension }
 {
     let zero = [0; Set::DIMENSION];
     let mut s1 = [0; Set::DIMENSION];
     let mut s2 = [0; Set::DIMENSION];
-    vectors::widen(f, &mut s1);
-    vectors::widen(g, &mut s2);
+    vectors::widen(f.try_into().unwrap(), &mut s1);
+    vectors::widen(g.try_into().unwrap(), &mut s2);
     if !keys::in_range(&s1, &s2, &zero) {
         return zero;
     }

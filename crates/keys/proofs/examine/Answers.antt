@@ -19,12 +19,12 @@ make_second-requires c =
     let ranged : in_range a.f.now a.g.now a.a.now ≡ true = cc in
     rw c.widen-2.ensures (g_small a.f.now a.g.now a.a.now ranged)
 
-pub holds_relation-requires : goal.holds_relation-requires
-holds_relation-requires c =
+pub holds_relation-requires-clause-spectrum_value : goal.holds_relation-requires-clause-spectrum_value
+holds_relation-requires-clause-spectrum_value c =
     let a = c.args in
     let ranged : in_range a.f.now a.g.now a.a.now ≡ true = cc in
     let made : c.make_second.new.g ≡ second a.g.now = c.make_second.ensures ∙ ap second c.widen-2.ensures in
-    rw made (second_within a.g.now (g_small a.f.now a.g.now a.a.now ranged))
+    (c.transform_key.ensures, rw made (second_within a.g.now (g_small a.f.now a.g.now a.a.now ranged)))
 
 pub returns-then-not-holds_relation : goal.returns-then-not-holds_relation
 returns-then-not-holds_relation c =

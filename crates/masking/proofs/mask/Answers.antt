@@ -16,7 +16,7 @@ masked-requires c =
     let f : SFits w16 (get_or y i (pos 0)) = search rules in
     let g : SFits w16 (get_or c.loop-i.v i (pos 0)) = search rules in
     let long : length (zip_with o y v) ≡ length v = omega (arith, length-zip_with o y v (omega arith)) in
-    rw ((given f).back, (given g).back ∙ next_is v (zip_with o y v) long c.loop-i.invariant (pos 0) (omega arith)) (c.requires i)
+    rw ((given f).back, (given g).back ∙ next_is v (zip_with o y v) long c.loop-i.invariant (pos 0) (omega arith)) (c.requires.by_index i)
 
 pub loop-i-preserved : goal.loop-i-preserved
 loop-i-preserved c =

@@ -1,6 +1,8 @@
 use Rattle.std.proofs.Common.{◌≡◌, ℕ, ◌+◌, ◌*◌, ◌<◌, Bool, not, ℤ, pos, nat_abs, ◌+ℤ◌, w32, to_z, of_z, sym, ap, ap₂, ◌∙◌, arith}
+use Rattle.std.proofs.lemmas.Grind.{common_steps}
 use Rattle.laws.proofs.Bounds.{abs_add, abs_sub}
 use Rattle.laws.proofs.Machine.{Reads, element, positive, add_ok, add_is, sub_ok, sub_is}
+use Rattle.vectors.specs.Vectors.{inner}
 use Rattle.vectors.specs.Pairs.{Pair, pair, squares_pair, inner_pair}
 use Rattle.vectors.proofs.Sums.{inner_le_sizes}
 use Rattle.choices.specs.Choices.{added_if}
@@ -31,9 +33,16 @@ module _ (c : After-inner_product-2) where
   y_is : Reads w32 (of_z w32 y) y
   y_is = element w32 y c.inner_product-2.type_inv
 
+  -- the arrays are the slices
+  first_is : x ≡ inner c.args.y1.now c.args.v1.now
+  first_is = grind (arith, common_steps)
+
+  second_is : y ≡ inner c.args.y2.now c.args.v2.now
+  second_is = grind (arith, common_steps)
+
   room : nat_abs x + nat_abs y + n < 1073741824
   room =
-      omega (arith, ap nat_abs c.inner_product.ensures, ap nat_abs c.inner_product-2.ensures, inner_le_sizes c.args.y1.now c.args.v1.now, inner_le_sizes c.args.y2.now c.args.v2.now, c.requires.1)
+      omega (arith, ap nat_abs first_is, ap nat_abs second_is, inner_le_sizes c.args.y1.now c.args.v1.now, inner_le_sizes c.args.y2.now c.args.v2.now, c.requires.squared_value.1)
 
   small : nat_abs (x +ℤ y) + n < 1073741824
   small = omega (arith, abs_add x y, room)
@@ -43,7 +52,7 @@ module _ (c : After-inner_product-2) where
   whole = add_is x_is y_is (omega (arith, room))
 
   is_inner : x +ℤ y ≡ inner_pair y_pair v_pair
-  is_inner = ap₂ ◌+ℤ◌ c.inner_product.ensures c.inner_product-2.ensures
+  is_inner = ap₂ ◌+ℤ◌ first_is second_is
 
   -- |v|²
   n_is : Reads w32 n (pos n)
@@ -52,7 +61,7 @@ module _ (c : After-inner_product-2) where
   -- what the sign bit makes of both
   masked_is : (b : Bool) → c.args.sign ≡ b → added_if (not b) (x +ℤ y) (pos n) ≡ inner_pair (masked c.args.sign y_pair v_pair) v_pair
   masked_is b e =
-      ap₂ (added_if (not b)) is_inner (ap pos c.requires.0)
+      ap₂ (added_if (not b)) is_inner (ap pos c.requires.squared_value.0)
       ∙ ap (λ (bit : Bool). added_if (not bit) (inner_pair y_pair v_pair) (pos (squares_pair v_pair))) (sym e)
       ∙ sym (inner_masked c.args.sign y_pair v_pair (omega arith) (omega arith))
 

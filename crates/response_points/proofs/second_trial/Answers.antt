@@ -9,7 +9,7 @@ use Rattle.response_points.proofs.second_trial.Goals as goal
 nothing : (v : List ℤ) → sizes zeros v ≤ 0
 nothing v = omega (arith, sizes_le_times 0 zeros v (within_zeros 0).first)
 
-pub second_trial-requires : goal.second_trial-requires
-second_trial-requires c =
+pub second_trial-requires-clause-squared_value : goal.second_trial-requires-clause-squared_value
+second_trial-requires-clause-squared_value c =
     let a = c.args in
     (c.requires.value, omega (arith, nothing a.v1.now, nothing a.v2.now, c.requires.small))

@@ -30,19 +30,19 @@ walked : (s : Set) (d : Drawing) (v : Pair) (ending : Ending) (m n q : ℕ) → 
 walked s d v ending m n q e f g h =
     e ∙ ap₂ (λ (m n : ℕ). walk_of m n d.words d.thresholds) (f ∙ ap (λ (q : ℕ). kappa_of s * key_limit_of s - q) g) h
 
-pub second_trial-second-requires : goal.second_trial-second-requires
-second_trial-second-requires c =
+pub second_trial-second-requires-clause-squared_value : goal.second_trial-second-requires-clause-squared_value
+second_trial-second-requires-clause-squared_value c =
     let a = c.args in
     let h = fits a.s a.signing.y1.now a.signing.y2.now a.v1.now a.v2.now c.requires.masks_value.0 c.requires.masks_value.1 in
     (c.squared_length-squared.ensures, rw c.squared_length-squared.ensures h)
 
-pub mask-requires : goal.mask-requires
-mask-requires c =
+pub mask-requires-clause-by_index : goal.mask-requires-clause-by_index
+mask-requires-clause-by_index c =
     let a = c.args in
     sum_fits a.s a.signing.y1.now a.v1.now (first_mask a.signing.y1.now a.signing.y2.now c.requires.masks_value.0) c.requires.by_index.0
 
-pub mask-requires-2 : goal.mask-requires-2
-mask-requires-2 c =
+pub mask-requires-2-clause-by_index : goal.mask-requires-2-clause-by_index
+mask-requires-2-clause-by_index c =
     let a = c.args in
     sum_fits a.s a.signing.y2.now a.v2.now (second_mask a.signing.y1.now a.signing.y2.now c.requires.masks_value.0) c.requires.by_index.1
 
