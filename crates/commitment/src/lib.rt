@@ -95,8 +95,7 @@ pub fn are_masks(y1: &[i16], y2: &[i16]) -> bool
     vectors::all_within(y1, Set::MASK_LIMIT) && vectors::all_within(y2, Set::MASK_LIMIT)
 }
 
-// The output is C's slice, lent mutably: of an array made of it a proof knows nothing after the loan, so its length is a clause. a, y1 and y2 are slices too:
-// the public `make_sums` and `add_sums` take slices and are given them as they are.
+// C's slices, whose lengths are a clause: the public `make_sums` and `add_sums` take slices and are given them as they are.
 #[tactic(auto, using(crate::proofs::Sums::sums_reduced), unfolding(crate::specs::Commitment::committed))]
 fn commit(s: Set, a: &[u16], y1: &[i16], y2: &[i16], out: &mut [u16])
     requires { (length a.now ≡ dimension) × (length y1.now ≡ dimension) × (length y2.now ≡ dimension) × (length out.old ≡ dimension) }

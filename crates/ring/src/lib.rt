@@ -26,8 +26,7 @@ const MODULUS: u16 = Set::MODULUS as u16;
 // 1 divided by 64, modulo q.
 const INVERSE: u16 = 12097;
 
-// Vectors are slices of a stated length: `out` is C's, lent mutably (of an array made of it a proof knows nothing after the loan), and docs/DECISIONS.md names
-// `transform_key` and `multiply`.
+// Vectors are slices of a stated length: `out` is C's, lent mutably, and docs/DECISIONS.md names `transform_key` and `multiply`.
 
 // The product of the key a and z. One working vector lives beside out, which serves as the other: the spectrum.
 pub fn key_product(a: &[u16], z: &[i16], out: &mut [u16])
@@ -49,7 +48,7 @@ pub fn transform_key(a: &[u16], spectrum: &mut [u16])
 }
 
 // The product of the key a, of which the spectrum is lent, and z. The key itself stands here for the contract alone. docs/DECISIONS.md
-// names it with the two; other crates have them as one value, `Transformed`.
+// names it with the two; `signing` has them as one value, `Transformed`.
 pub fn multiply(a: &[u16], spectrum: &[u16], z: &[i16], out: &mut [u16])
     requires { (length a.now ≡ dimension) × (length z.now ≡ dimension) × (length out.old ≡ dimension) × (spectrum.now ≡ spectrum_of a.now) }
     ensures { out.new ≡ product a.now z.now }
