@@ -131,20 +131,21 @@ impl fmt::Display for Verdict {
     }
 }
 
-fn main(rt: HostRuntime) -> io::Result<()> {
-    every_set(&rt)?;
-    draws(&rt)?;
-    signs(&rt)?;
-    other_keys(&rt)?;
-    refusals(&rt)?;
-    too_long(&rt)?;
-    changed(&rt, "set 1, masks 101 and -50", Case::masked(1, 101, -50))?;
-    changed(
+fn main(rt: HostRuntime) {
+    // What cannot be printed changes nothing in how the program ends.
+    let _ = every_set(&rt);
+    let _ = draws(&rt);
+    let _ = signs(&rt);
+    let _ = other_keys(&rt);
+    let _ = refusals(&rt);
+    let _ = too_long(&rt);
+    let _ = changed(&rt, "set 1, masks 101 and -50", Case::masked(1, 101, -50));
+    let _ = changed(
         &rt,
         "set 4, masks -123 and -222",
         Case::masked(4, -123, -222),
-    )?;
-    changed(&rt, "set 8, masks 90 and -60", Case::masked(8, 90, -60))
+    );
+    let _ = changed(&rt, "set 8, masks 90 and -60", Case::masked(8, 90, -60));
 }
 
 // ---- the cases

@@ -20,12 +20,13 @@ struct Input<'a> {
     y2: &'a [i16],
 }
 
-fn main(rt: HostRuntime) -> io::Result<()> {
-    digits(&rt)?;
-    products(&rt)?;
-    ranges(&rt)?;
-    lengths(&rt)?;
-    faults(&rt)
+fn main(rt: HostRuntime) {
+    // What cannot be printed changes nothing in how the program ends.
+    let _ = digits(&rt);
+    let _ = products(&rt);
+    let _ = ranges(&rt);
+    let _ = lengths(&rt);
+    let _ = faults(&rt);
 }
 
 // The table of upper digits, and the rests: a = 0, so u = y2 modulo 24578. 24577 is one above p steps.

@@ -6,10 +6,11 @@ use draw::Ending;
 use sets::Set;
 use std::{array, fmt, io};
 
-fn main(rt: HostRuntime) -> io::Result<()> {
-    rounds(&rt)?;
-    binary_places(&rt)?;
-    every_count(&rt)
+fn main(rt: HostRuntime) {
+    // What cannot be printed changes nothing in how the program ends.
+    let _ = rounds(&rt);
+    let _ = binary_places(&rt);
+    let _ = every_count(&rt);
 }
 
 // No word for the first trial, and one for each other: 0 passes, and any other word fails.

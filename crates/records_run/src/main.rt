@@ -15,15 +15,16 @@ use samples::{Entries, record_in, record_of, record_with};
 use sets::Set;
 use std::io;
 
-fn main(rt: HostRuntime) -> io::Result<()> {
-    every_set(&rt)?;
-    header_bytes(&rt)?;
-    every_length(&rt)?;
-    limits(&rt)?;
-    lists(&rt)?;
-    buffers(&rt)?;
-    packed_records(&rt)?;
-    key_numbers(&rt)
+fn main(rt: HostRuntime) {
+    // What cannot be printed changes nothing in how the program ends.
+    let _ = every_set(&rt);
+    let _ = header_bytes(&rt);
+    let _ = every_length(&rt);
+    let _ = limits(&rt);
+    let _ = lists(&rt);
+    let _ = buffers(&rt);
+    let _ = packed_records(&rt);
+    let _ = key_numbers(&rt);
 }
 
 // ---- the plain form

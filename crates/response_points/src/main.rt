@@ -15,12 +15,13 @@ use draw::Ending;
 use sets::{Polynomial, Set};
 use std::{array, fmt, io};
 
-fn main(rt: HostRuntime) -> io::Result<()> {
+fn main(rt: HostRuntime) {
+    // What cannot be printed changes nothing in how the program ends.
     for t in 0..3 {
-        println!(rt; "12288 t modulo 24578, t = {t}: {}", rounding::sum(t, 0))?;
+        let _ = println!(rt; "12288 t modulo 24578, t = {t}: {}", rounding::sum(t, 0));
     }
-    println!(rt; "set 1, f = 1, g = 0, masks zero, list 0 .. 22")?;
-    key_of_one(&rt, Set::I)
+    let _ = println!(rt; "set 1, f = 1, g = 0, masks zero, list 0 .. 22");
+    let _ = key_of_one(&rt, Set::I);
 }
 
 // ---- the response, up to the numbers of its trials

@@ -3,11 +3,10 @@
 #![tactic(auto)]
 
 use sets::Set;
-use std::io;
 
 const PRODUCTS: usize = 2000;
 
-fn main(rt: HostRuntime) -> io::Result<()> {
+fn main(rt: HostRuntime) {
     let mut key = [12288u16; Set::DIMENSION];
     let z = [-4096i16; Set::DIMENSION];
     let mut product = [0u16; Set::DIMENSION];
@@ -15,5 +14,6 @@ fn main(rt: HostRuntime) -> io::Result<()> {
         ring::key_product(&key, &z, &mut product);
         key = product;
     }
-    println!(rt; "{:05}", product[Set::DIMENSION - 1])
+    // What cannot be printed changes nothing in how the program ends.
+    let _ = println!(rt; "{:05}", product[Set::DIMENSION - 1]);
 }

@@ -5,9 +5,8 @@
 mod key_tests;
 mod responses;
 
-use std::io;
-
-fn main(rt: HostRuntime) -> io::Result<()> {
-    key_tests::run(&rt)?;
-    responses::run(&rt)
+fn main(rt: HostRuntime) {
+    // What cannot be printed changes nothing in how the program ends.
+    let _ = key_tests::run(&rt);
+    let _ = responses::run(&rt);
 }
