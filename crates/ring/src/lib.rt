@@ -177,15 +177,16 @@ fn block(s: &mut [u16], f: &[u16], w: u16)
 {
     let mut c = [0u32; 16];
     // i is also where the row stands in c.
+    let known: &[u16; 8] = (&*s).try_into().unwrap();
     for i in (0..8).rev() {
-        row(&mut c[i..], f[i], s, w);
+        row(&mut c[i..], f[i], known, w);
     }
     reduce(s, &c);
 }
 
 // One row more of a product modulo x^8 - w, in the first 8 entries of c: its rows so far, which stand in the next 8, times x, and a times s.
-fn row(c: &mut [u32], a: u16, s: &[u16], w: u16)
-    requires in_bounds { (9 ≤ length c.old) × (length s.now ≡ 8) × (a < modulus) × (w < modulus) × Within (modulus - 1) s.now }
+fn row(c: &mut [u32], a: u16, s: &[u16; 8], w: u16)
+    requires in_bounds { (9 ≤ length c.old) × (a < modulus) × (w < modulus) × Within (modulus - 1) s.now }
     requires within { Within 1207959552 (take 7 (drop 1 c.old)) }
     ensures { take 8 c.new ≡ zip_with (λ y z. z + a * y) s.now (w * (get_or c.old 8 0 % modulus) ∷ take 7 (drop 1 c.old)) }
 {

@@ -5,6 +5,7 @@ use native.Mathlib.Omega.{arith}
 use lib.ListN.{length, get_or, take, drop, length-drop}
 use lib.Seq.{length-take-le, take_all, drop_at, take-append-le}
 use borrow.Rule.Slice.PartMut.{put_mid, same_len_mid}
+use Rattle.std.proofs.lemmas.Grind.{common_steps}
 use Rattle.ring.specs.Transform.{Within}
 use Rattle.ring.proofs.Rows.{Window, grown, begin, room, more}
 use Rattle.ring.proofs.block.Goals as goal
@@ -51,6 +52,11 @@ loop-i-init c =
     let a = c.args in
     (omega arith, begin a.w a.f.now a.s.now (omega arith) c.requires.1 c.requires.0 c.requires.4 c.requires.3)
 
+pub row-requires-clause-in_bounds : goal.row-requires-clause-in_bounds
+row-requires-clause-in_bounds c =
+    let same : c.unwrap-known.result.now ≡ c.args.s.now = grind (arith, common_steps) in
+    (omega arith, omega arith, c.requires.2, rw same c.requires.3)
+
 pub row-requires-clause-within : goal.row-requires-clause-within
 row-requires-clause-within c =
     let a = c.args in
@@ -60,7 +66,9 @@ row-requires-clause-within c =
 pub loop-i-preserved : goal.loop-i-preserved
 loop-i-preserved c =
     let a = c.args in
-    let l = c.loop-i in (
+    let l = c.loop-i in
+    let same : c.unwrap-known.result.now ≡ a.s.now = grind (arith, common_steps) in
+    let row = rw same at c.row.ensures in (
       omega arith,
-      next a.w a.f.now a.s.now (omega arith) c.requires.1 c.requires.0 c.requires.4 c.requires.3 l.i l.c c.loop-i-test.true l.invariant.0 l.invariant.1 c.row.new.c c.row.auto.c c.row.ensures,
+      next a.w a.f.now a.s.now (omega arith) c.requires.1 c.requires.0 c.requires.4 c.requires.3 l.i l.c c.loop-i-test.true l.invariant.0 l.invariant.1 c.row.new.c c.row.auto.c row,
     )

@@ -70,7 +70,7 @@ overflow_add-c c =
     let first : head ≤ 150994944 = residues_product (omega (arith, c.from.ensures)) (omega arith) in
     omega (
       arith,
-      room a.a head a.s.now a.c.now r.0 r.1 (omega arith) first r.4 c.requires.within l.i l.c l.invariant (omega arith)
+      room a.a head a.s.now a.c.now r.0 (omega arith) (omega arith) first r.3 c.requires.within l.i l.c l.invariant (omega arith)
           (c.from-in-loop-i.result * c.from-in-loop-i-2.result) (ap₂ ◌*◌ c.from-in-loop-i.ensures c.from-in-loop-i-2.ensures),
     )
 
@@ -81,7 +81,7 @@ loop-i-preserved c =
     let l = c.loop-i in
     let head = c.from.result * (get_or a.c.now 8 0 % 12289) in
     let first : head ≤ 150994944 = residues_product (omega (arith, c.from.ensures)) (omega arith) in
-    step a.a head a.s.now a.c.now r.0 r.1 (omega arith) first r.4 c.requires.within l.i l.c l.invariant (omega arith) _
+    step a.a head a.s.now a.c.now r.0 (omega arith) (omega arith) first r.3 c.requires.within l.i l.c l.invariant (omega arith) _
     (ap₂ ◌*◌ c.from-in-loop-i.ensures c.from-in-loop-i-2.ensures)
 
 pub returns : goal.returns
@@ -91,5 +91,5 @@ returns c =
     let l = c.loop-i in
     let last = get_or a.c.now 8 0 % 12289 in
     let first : c.from.result * last ≤ 150994944 = residues_product (omega (arith, c.from.ensures)) (omega arith) in
-    whole a.a (c.from.result * last) a.s.now a.c.now r.0 r.1 (omega arith) first r.4 c.requires.within l.i l.c l.invariant (omega arith)
+    whole a.a (c.from.result * last) a.s.now a.c.now r.0 (omega arith) (omega arith) first r.3 c.requires.within l.i l.c l.invariant (omega arith)
     ∙ ap (λ (w : ℕ). zip_with (λ y z. z + a.a * y) a.s.now (w * last ∷ take 7 (drop 1 a.c.now))) c.from.ensures
